@@ -1,0 +1,5 @@
+pub mod Orders
+pub mod Sets
+pub mod Tables
+pub mod Rule
+pub mod Answers
