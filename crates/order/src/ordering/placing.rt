@@ -7,8 +7,7 @@ ghost use Prim.Native.Nat.{_+_, _<_};
 ghost use mathlib.Core.Path.{_≡_};
 ghost use lib.ListN.{set};
 ghost use Rattle.order.specs.Sets.{With};
-ghost use Rattle.order.specs.Orders.{Is-the-order};
-ghost use Rattle.order.specs.Answers.{Superior, devices, Answers, Exact};
+ghost use Rattle.order.specs.Answers.{devices, Answers, Exact};
 
 // The places taken so far, and which devices have one.
 #[derive(Clone, Copy)]
@@ -60,8 +59,7 @@ impl Superiors {
 impl Order {
     // The devices, the first in the order first.
     pub fn devices(&self) -> &[u8]
-        ensures list { λ r. ⌜ now r ≡ devices (now (self .entry)) ⌝ }
-        ensures order { λ r. ⌜ Is-the-order (now (self .entry) .superiors .count) (Superior (now (self .entry) .superiors)) (now r) ⌝ }
+        ensures { λ r. ⌜ now r ≡ devices (now (self .entry)) ⌝ }
     {
         &self.places[0..self.superiors.count() as usize]
     }

@@ -1,11 +1,22 @@
 // The calls on a table of superiors.
 use crate::set::DeviceSet;
 use crate::superiors::Superiors;
+ghost use Prim.Native.Nat.{_≤_};
 ghost use mathlib.Core.Path.{_≡_};
+ghost use Rattle.std.specs.declared.option.Option.the-variants.{Some};
 ghost use Rattle.std.specs.Orderings.{Decides};
 ghost use Rattle.order.specs.Answers.{Superior, Made, Added};
 
 impl Superiors {
+    // Devices without superiors.
+    fn bare(count: u8) -> Superiors
+        requires { ⌜ (1 ≤ count) × (count ≤ 64) ⌝ }
+        ensures { λ r. ⌜ Made count (Some r) ⌝ }
+    {
+        let sets = [DeviceSet::empty(); 64];
+        Superiors { count, sets }
+    }
+
     // `count` devices, none of them with a superior yet; or nothing, unless there are 1 to 64.
     pub fn new(count: u8) -> Option<Superiors>
         ensures { λ r. ⌜ Made count r ⌝ }
@@ -13,8 +24,7 @@ impl Superiors {
         if count == 0 || count > 64 {
             return None;
         }
-        let sets = [DeviceSet::empty(); 64];
-        Some(Superiors { count, sets })
+        Some(Superiors::bare(count))
     }
 
     pub fn count(&self) -> u8

@@ -12,9 +12,9 @@ impl Superiors {
     pub(crate) fn next(&self, placed: DeviceSet) -> Option<u8>
         ensures { λ r. ⌜ BySome r ((d : ℕ) → d < now (self .entry) .count → (In placed d → ⊥) → Held (now (self .entry) .sets) placed d) (λ d. Least (Free (now (self .entry) .count) (now (self .entry) .sets) placed) d) ⌝ }
     {
-        for d in 0..self.count {
-            if !placed.has(d) && self.sets[d as usize].within(placed) {
-                return Some(d);
+        for device in 0..self.count {
+            if !placed.has(device) && self.sets[device as usize].within(placed) {
+                return Some(device);
             }
         }
         None
