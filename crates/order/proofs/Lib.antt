@@ -5,3 +5,4 @@ pub mod Tables
 pub mod Placing
 pub mod Executes
 pub mod Exactness
+pub mod Alike

@@ -65,11 +65,11 @@ module _ (n : ℕ) (sets : List DeviceSet) where
           (long, (least-precedes n (Above sets) known order long (kept .least), kept .least))
 
       -- with none free, the least device left is the one to name
-      pub kept-stuck : ((d : ℕ) → d < n → (In placed d → ⊥) → Held sets placed d)
+      pub kept-stuck : ((d : ℕ) → d < n → In placed d ⊎ Held sets placed d)
           → (d : ℕ) → d < n → (In placed d → ⊥) → ((e : ℕ) → e < d → In placed e) → Circular n (Above sets) d
       kept-stuck held d small out below =
           stuck-circular n (Above sets) known order (kept .least) d small (λ p. out (kept .placed-in d p)) (λ e h. kept .in-placed e (below e h))
-          (λ e h q. let t = held e h (λ i. q (kept .in-placed e i)) in (t .0, t .1, (λ p. t .2 (kept .placed-in (t .0) p))))
+          (λ e h q. elim (held e h) [ inl i ↦ absurd (q (kept .in-placed e i)) | inr t ↦ (t .0, t .1, (λ p. t .2 (kept .placed-in (t .0) p))) ])
 
 -- ---- the row of places that the code fills
 
@@ -103,6 +103,6 @@ module _ (table : Superiors) (row : Row) (runs : Runs table row) where
       let e : row .taken ≡ table .count = sym taken-long ∙ t .0 in
       subst (λ k. Is-the-order (table .count) (Above (table .sets)) (take k (row .places))) e (t .1)
 
-  pub runs-stuck : ((d : ℕ) → d < table .count → (In (row .placed) d → ⊥) → Held (table .sets) (row .placed) d)
+  pub runs-stuck : ((d : ℕ) → d < table .count → In (row .placed) d ⊎ Held (table .sets) (row .placed) d)
       → (d : ℕ) → d < table .count → (In (row .placed) d → ⊥) → ((e : ℕ) → e < d → In (row .placed) e) → Circular (table .count) (Above (table .sets)) d
   runs-stuck = kept-stuck (table .count) (table .sets) _ (row .placed) (runs .kept) (table .known)

@@ -1,0 +1,5 @@
+use Rattle.board.proofs.Exclusion.{exact}
+use Rattle.board.proofs.board.Board.read.Needs as need
+
+pub returns : need.returns
+returns c = record { reads = c .load .ensures; exact = exact (c .args .bytes .now) (c .load .result) (c .load .ensures) }

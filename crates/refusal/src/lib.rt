@@ -1,0 +1,5 @@
+// What is told of a refusal, whichever layer refused.
+mod refusal;
+
+pub use refusal::Refusal;
+pub use refusal::RefusalDisplay;
