@@ -5,7 +5,6 @@ use mathlib.Core.List.{List, map}
 use mathlib.Core.Logic.{_⊎_}
 use Prim.Native.Nat.{ℕ, _<_}
 use lib.Dec.{eqb}
-use lib.ListN.{take}
 use Rattle.std.specs.Iters.{counting}
 use Rattle.std.specs.declared.option.Option.{Option}
 use Rattle.std.specs.declared.option.Option.the-variants.{Some, None}
@@ -13,11 +12,11 @@ use Rattle.board.specs.declared.device.Name.{Name}
 use Rattle.board.specs.declared.device.Device.{Device}
 use Rattle.board.specs.declared.device.Link.{Link}
 use Rattle.board.specs.Layout.{byte, device-count, link-count, name-field, parent-byte, word, consumer, supplier}
-use Rattle.board.specs.Rules.{name-size}
+use Rattle.board.specs.Rules.{shortened}
 
 -- a name without its padding
 abbrev pub text : Name → List ℕ
-text name = take (name-size (name .padded)) (name .padded)
+text name = shortened (name .padded)
 
 -- 255 says that there is none
 abbrev pub parent : List ℕ → ℕ → Option ℕ

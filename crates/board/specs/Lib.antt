@@ -6,3 +6,4 @@ pub mod Faults
 pub mod Trailers
 pub mod Wiring
 pub mod Reading
+pub mod Laws

@@ -6,7 +6,7 @@ use mathlib.Core.Logic.{_⊎_}
 use Prim.Native.Nat.{ℕ, _+_, _-_, _*_, _<_, _≤_}
 use lib.Chars.{codes}
 use lib.Dec.{eqb}
-use lib.ListN.{length, getD}
+use lib.ListN.{length, getD, take}
 use Rattle.std.specs.Holes.{between}
 use Rattle.std.specs.shelf.Lists.{leading}
 use Rattle.board.specs.Limits.{least-bytes, most-bytes, most-devices, most-links}
@@ -56,6 +56,10 @@ not-zero b = not (eqb b 0)
 -- how many bytes stand before the first zero byte, or in all
 abbrev pub name-size : List ℕ → ℕ
 name-size field = leading not-zero field
+
+-- the bytes before the first zero byte
+abbrev pub shortened : List ℕ → List ℕ
+shortened field = take (name-size field) field
 
 -- a letter first, letters a to z and digits up to the first zero byte, and zero bytes from there to the field's end
 pub record Named (field : List ℕ) : Type 0 where

@@ -27,6 +27,7 @@ ghost use Rattle.board.specs.Contents.{devices-of, links-of};
 ghost use Rattle.board.specs.Faults.{Refused};
 ghost use Rattle.board.specs.Trailers.{Trailer-of};
 ghost use Rattle.board.specs.Wiring.{Ordered};
+ghost use Rattle.board.specs.Laws.{Laws};
 ghost use Rattle.board.specs.Reading.{Reads, Exact};
 
 // The devices that the records say.
@@ -75,6 +76,7 @@ impl Board {
     pub fn read(heap: Global, bytes: &[u8]) -> Result<Board, ReadFault>
         ensures reads { λ r. ⌜ Reads (now (bytes .entry)) r ⌝ }
         ensures exact { λ r. ⌜ Exact (now (bytes .entry)) r ⌝ }
+        ensures laws { λ _. ⌜ Laws (now (bytes .entry)) ⌝ }
     {
         Board::load(heap, bytes)
     }
