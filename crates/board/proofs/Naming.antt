@@ -5,15 +5,18 @@ use mathlib.Core.List.{List, [], _∷_}
 use mathlib.Core.Logic.{_⊎_, inl, inr, _↔_}
 use Prim.Native.Nat.{ℕ, _+_, _-_, _<_, _≤_}
 use native.Mathlib.Omega.{arith}
-use lib.Dec.{eqb}
+use lib.Dec.{lit<}
 use lib.ListN.{length, getD, take}
 use Rattle.std.specs.shelf.Lists.{leading}
 use Rattle.std.proofs.shelf.Lists.{length-take-le, getD-take, getD-past, ext-getD}
+use Rattle.std.proofs.shelf.Counted.{getD-map-counting, length-map-counting}
 use Rattle.std.proofs.shelf.Edits.{length-between}
 use Rattle.std.proofs.shelf.Sums.{leading-le-length}
 use Rattle.std.proofs.shelf.Tests.{cases-lt}
 use Rattle.board.specs.Layout.{device-count, device-place, name-field}
 use Rattle.board.specs.Rules.{Apart, Named, Framed, Right-devices, not-zero, name-size, shortened}
+use Rattle.board.specs.declared.device.Device.{Device}
+use Rattle.board.specs.Contents.{blank, device-of, devices-of, Ascii-names}
 use Rattle.board.specs.Laws.{Share-none, Laws}
 
 -- ---- spans
@@ -79,6 +82,26 @@ module _ (bs : List ℕ) (framed : Framed bs) (right : Right-devices bs) where
   names i j h l e =
       let k : i < device-count bs = omega arith in
       right j l .new i h (shortened-same (name-field bs i) (name-field bs j) (right i k .named) (right j l .named) (field-long i k ∙ sym (field-long j l)) e)
+
+-- ---- names are ASCII
+
+named-ascii : (field : List ℕ) → Named field → (k : ℕ) → getD field k 0 < 128
+named-ascii field named k = go (cases-lt k (name-size field)) (cases-lt k (length field))
+  where
+    go : (k < name-size field) ⊎ (name-size field ≤ k) → (k < length field) ⊎ (length field ≤ k) → getD field k 0 < 128
+    go (inl h) y = elim (named .plain k h) [ inl p ↦ omega (arith, p .1) | inr p ↦ omega (arith, p .1) ]
+    go (inr h) (inl l) = omega (arith, named .padded k h l)
+    go (inr h) (inr l) = omega (arith, getD-past field k 0 l)
+
+pub ascii-names : (bs : List ℕ) → Right-devices bs → (devices : List Device) → devices ≡ devices-of bs → Ascii-names devices
+ascii-names bs right devices is = rw is all
+  where
+    all : Ascii-names (devices-of bs)
+    all i k = go (cases-lt i (device-count bs))
+      where
+        go : (i < device-count bs) ⊎ (device-count bs ≤ i) → getD (getD (devices-of bs) i blank .name .padded) k 0 < 128
+        go (inl l) = rw (getD-map-counting (device-of bs) 0 (device-count bs) i i blank l (omega arith)) (named-ascii (name-field bs i) (right i l .named) k)
+        go (inr l) = rw (getD-past (devices-of bs) i blank (simp length-map-counting l)) (lit< tt)
 
 pub laws : (bs : List ℕ) → Laws bs
 laws bs = record { apart = λ a k b l some more. (apart-shares a k b l, shares-apart a k b l some more); sizes = sizes bs; names = names bs }

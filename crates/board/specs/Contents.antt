@@ -1,10 +1,11 @@
 -- What the bytes of a board file say of its devices and links.
 use mathlib.Core.Path.{_≡_}
 use mathlib.Core.Bool.{cond, _&&_}
-use mathlib.Core.List.{List, map}
+use mathlib.Core.List.{List, [], map}
 use mathlib.Core.Logic.{_⊎_}
 use Prim.Native.Nat.{ℕ, _<_}
 use lib.Dec.{eqb}
+use lib.ListN.{getD}
 use Rattle.std.specs.Iters.{counting}
 use Rattle.std.specs.declared.option.Option.{Option}
 use Rattle.std.specs.declared.option.Option.the-variants.{Some, None}
@@ -17,6 +18,14 @@ use Rattle.board.specs.Rules.{shortened}
 -- a name without its padding
 abbrev pub text : Name → List ℕ
 text name = shortened (name .padded)
+
+-- what stands where no device does
+abbrev pub blank : Device
+blank = record { name = record { padded = [] }; parent = None; word = 0 }
+
+-- names are ASCII
+abbrev pub Ascii-names : List Device → Type 0
+Ascii-names devices = (i k : ℕ) → getD (getD devices i blank .name .padded) k 0 < 128
 
 -- 255 says that there is none
 abbrev pub parent : List ℕ → ℕ → Option ℕ

@@ -6,7 +6,8 @@ use crate::device::Link;
 use order::ordering::Order;
 ghost use Prim.Native.Nat.{_+_};
 ghost use mathlib.Core.Path.{_≡_};
-ghost use Rattle.std.specs.Of.Vec.{vec-len};
+ghost use Rattle.std.specs.Of.Vec.{vec-items, vec-len};
+ghost use Rattle.board.specs.Contents.{Ascii-names};
 
 // The board that a board file describes, which only `Board::read` makes. Its devices are numbered from 0: first those in
 // registers, then those on the bus, then the quiet ones.
@@ -19,5 +20,6 @@ pub struct Board {
     quiet: u8,
     order: Order,
     ghost many: { vec-len devices ≡ order .superiors .count },
+    ghost ascii: { Ascii-names (vec-items devices) },
     ghost kinds: { register + bus + quiet ≡ order .superiors .count },
 }

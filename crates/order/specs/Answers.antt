@@ -3,9 +3,12 @@ use mathlib.Core.Path.{_≡_}
 use mathlib.Core.List.{List}
 use mathlib.Core.Logic.{_↔_}
 use mathlib.Core.Bool.{Bool, true, false}
-use Prim.Native.Nat.{ℕ, _<_, _≤_}
-use lib.ListN.{take}
+use Prim.Native.Nat.{ℕ, _/_, _%_, _^_, _<_, _≤_}
+use lib.Dec.{eqb}
+use lib.ListN.{getD, take}
+use Rattle.std.specs.Iters.{counting}
 use Rattle.std.specs.Results.{isOk}
+use Rattle.std.specs.shelf.Lists.{kept-by}
 use Rattle.std.specs.declared.option.Option.{Option}
 use Rattle.std.specs.declared.option.Option.the-variants.{Some, None}
 use Rattle.std.specs.declared.result.Result.{Result}
@@ -14,12 +17,21 @@ use Rattle.order.specs.declared.superiors.Superiors.{Superiors}
 use Rattle.order.specs.declared.ordering.Order.{Order}
 use Rattle.order.specs.declared.ordering.Circle.{Circle}
 use Rattle.order.specs.Orders.{Is-the-order, Orderable, Circular, Pinned}
+use Rattle.order.specs.Sets.{none}
 use Rattle.order.specs.Tables.{Above, Adds}
 use Rattle.order.specs.Rule.{Tests, ordering}
 
 -- s is a superior of d: its parent, say, or a supplier of it
 abbrev pub Superior : Superiors → ℕ → ℕ → Type 0
 Superior table s d = Above (table .sets) s d
+
+-- the same as a test
+abbrev pub is-superior : Superiors → ℕ → ℕ → Bool
+is-superior table s d = eqb (getD (table .sets) d none .bits / 2 ^ s % 2) 1
+
+-- the superiors of d by rising number, each once
+abbrev pub superiors-of : Superiors → ℕ → List ℕ
+superiors-of table d = kept-by (λ s. is-superior table s d) (counting 0 (table .count))
 
 -- a table of 1 to 64 devices, of which none has a superior
 abbrev pub Made : ℕ → Option Superiors → Type 0

@@ -23,7 +23,7 @@ ghost use Rattle.std.specs.Results.{Cases as ByOk};
 ghost use Rattle.std.specs.Vec.{made};
 ghost use Rattle.board.specs.Layout.{device-count};
 ghost use Rattle.board.specs.Rules.{Framed, Right-devices, Right-links};
-ghost use Rattle.board.specs.Contents.{devices-of, links-of};
+ghost use Rattle.board.specs.Contents.{devices-of, links-of, Ascii-names};
 ghost use Rattle.board.specs.Faults.{Refused};
 ghost use Rattle.board.specs.Trailers.{Trailer-of};
 ghost use Rattle.board.specs.Wiring.{Ordered};
@@ -34,7 +34,8 @@ ghost use Rattle.board.specs.Reading.{Reads, Exact};
 fn read_devices(heap: Global, bytes: &[u8], trailer: &Trailer) -> Result<Vec<Device>, AllocError>
     requires framed { ⌜ Framed (now bytes) ⌝ }
     requires trailer { ⌜ Trailer-of (now bytes) (now trailer) ⌝ }
-    ensures { λ r. ⌜ made r (λ v. (vec-items v ≡ devices-of (now (bytes .entry))) × (vec-len v ≡ device-count (now (bytes .entry)))) ⌝ }
+    requires devices { ⌜ Right-devices (now bytes) ⌝ }
+    ensures { λ r. ⌜ made r (λ v. (vec-items v ≡ devices-of (now (bytes .entry))) × (vec-len v ≡ device-count (now (bytes .entry))) × Ascii-names (vec-items v)) ⌝ }
 {
     let n = trailer.counts.devices;
     let mut devices = Vec::with_capacity(heap, n as usize)?;
