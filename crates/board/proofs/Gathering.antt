@@ -8,10 +8,10 @@ use native.Mathlib.Omega.{arith}
 use Rattle.std.proofs.shelf.Tests.{cases-eq}
 use Rattle.order.specs.declared.superiors.Superiors.{Superiors}
 use Rattle.order.specs.Answers.{Superior, Added}
-use Rattle.board.specs.declared.device.Link.{Link}
-use Rattle.board.specs.Layout.{device-count, consumer, supplier}
-use Rattle.board.specs.Rules.{Right-link}
-use Rattle.board.specs.Contents.{link-of}
+use Rattle.boardfile.specs.declared.device.Link.{Link}
+use Rattle.boardfile.specs.Layout.{device-count, consumer, supplier}
+use Rattle.boardfile.specs.Rules.{Right-link}
+use Rattle.boardfile.specs.Contents.{link-of}
 use Rattle.board.specs.Wiring.{Gains}
 
 -- one superior more: the relation grows by just that

@@ -1,5 +1,4 @@
 pub mod Gathering
 pub mod Filling
 pub mod Wires
-pub mod Exclusion
-pub mod Naming
+pub mod Exactness

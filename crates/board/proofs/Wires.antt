@@ -8,8 +8,8 @@ use Rattle.order.specs.Orders.{Is-the-order, Circular}
 use Rattle.order.specs.Answers.{Superior, devices}
 use Rattle.order.proofs.Alike.{order-alike, circular-alike}
 use Rattle.order.proofs.Exactness.{ordered}
-use Rattle.board.specs.Layout.{device-count}
-use Rattle.board.specs.Contents.{Superior-in}
+use Rattle.boardfile.specs.Layout.{device-count}
+use Rattle.boardfile.specs.Contents.{Superior-in}
 use Rattle.board.specs.Wiring.{Wired, Ordered}
 
 module _ (bs : List ℕ) (table : Superiors) (wired : Wired bs table) where

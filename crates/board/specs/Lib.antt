@@ -1,9 +1,2 @@
-pub mod Limits
-pub mod Layout
-pub mod Rules
-pub mod Contents
-pub mod Faults
-pub mod Trailers
 pub mod Wiring
 pub mod Reading
-pub mod Laws

@@ -8,32 +8,22 @@ use Rattle.std.specs.Of.Vec.{vec-items}
 use Rattle.std.specs.Results.{isOk}
 use Rattle.std.specs.declared.result.Result.{Result}
 use Rattle.std.specs.declared.result.Result.the-variants.{Ok, Err}
-use Rattle.order.specs.Orders.{Is-the-order, Orderable}
+use Rattle.order.specs.Orders.{Is-the-order}
 use Rattle.order.specs.Answers.{devices as in-order}
 use Rattle.board.specs.declared.board.Board.{Board}
-use Rattle.board.specs.declared.fault.BoardFault.{BoardFault}
-use Rattle.board.specs.declared.fault.ReadFault.{ReadFault}
-use Rattle.board.specs.declared.fault.ReadFault.the-variants.{Board as BrokenBy, Memory}
-use Rattle.board.specs.Layout.{register-count, bus-count, quiet-count, device-count}
-use Rattle.board.specs.Rules.{Framed, Right-devices, Right-links}
-use Rattle.board.specs.Contents.{devices-of, links-of, Superior-in}
-use Rattle.board.specs.Faults.{Refused}
+use Rattle.boardfile.specs.declared.fault.BoardFault.{BoardFault}
+use Rattle.boardfile.specs.declared.fault.ReadFault.{ReadFault}
+use Rattle.boardfile.specs.declared.fault.ReadFault.the-variants.{Board as BrokenBy, Memory}
+use Rattle.boardfile.specs.Layout.{device-count}
+use Rattle.boardfile.specs.Contents.{devices-of, links-of, kinds-of, Superior-in}
+use Rattle.boardfile.specs.Faults.{Refused, Right}
 use Rattle.board.specs.Wiring.{Wired}
-
--- the bytes keep all rules
-pub record Right (bs : List ℕ) : Type 0 where
-  pub framed : Framed bs
-  pub devices : Right-devices bs
-  pub links : Right-links bs
-  pub no-circle : Orderable (device-count bs) (Superior-in bs)
 
 -- the board has what the bytes say
 pub record Says (bs : List ℕ) (board : Board) : Type 0 where
   pub devices : vec-items (board .devices) ≡ devices-of bs
   pub links : vec-items (board .links) ≡ links-of bs
-  pub registers : board .register ≡ register-count bs
-  pub buses : board .bus ≡ bus-count bs
-  pub quiets : board .quiet ≡ quiet-count bs
+  pub kinds : board .kinds ≡ kinds-of bs
   pub superiors : Wired bs (board .order .superiors)
   pub order : Is-the-order (device-count bs) (Superior-in bs) (in-order (board .order))
 

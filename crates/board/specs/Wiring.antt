@@ -7,8 +7,8 @@ use Rattle.order.specs.declared.superiors.Superiors.{Superiors}
 use Rattle.order.specs.declared.ordering.Order.{Order}
 use Rattle.order.specs.Orders.{Is-the-order, Orderable}
 use Rattle.order.specs.Answers.{Superior, devices}
-use Rattle.board.specs.Layout.{device-count}
-use Rattle.board.specs.Contents.{Superior-in}
+use Rattle.boardfile.specs.Layout.{device-count}
+use Rattle.boardfile.specs.Contents.{Superior-in}
 
 -- the table has what it had, and besides just what the relation has
 pub record Gains (R : ℕ → ℕ → Type 0) (before after : Superiors) : Type 0 where

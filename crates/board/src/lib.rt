@@ -1,9 +1,4 @@
-// Board files: from the bytes of one to the board that it describes, or to the rule that it breaks.
+// Boards: from the bytes of a board file to the board that it describes, or to the rule that it breaks.
 pub mod board;
-pub mod device;
-pub mod fault;
-mod limits;
-mod numbers;
 mod records;
-mod trailer;
 mod wiring;

@@ -1,9 +1,9 @@
 // Reads many board files, good and damaged, and prints what each says or why it is refused. What it has to print comes
 // from the model, which is written in another language from the documents alone.
 use board::board::Board;
-use board::device::Device;
-use board::device::Name;
-use board::fault::ReadFault;
+use boardfile::device::Device;
+use boardfile::device::Name;
+use boardfile::fault::ReadFault;
 use listing::lines::order_lines;
 use refusal::RefusalDisplay;
 use std::alloc::AllocError;
@@ -32,7 +32,8 @@ fn print_device(rt: &LibcRuntime, device: &Device) -> Result<(), AnyError> {
 
 // Everything that the board has, and its devices in their order.
 fn print_board(rt: &LibcRuntime, board: &Board) -> Result<(), AnyError> {
-    println!(rt, "banks {} {} {}", board.register_count(), board.bus_count(), board.quiet_count())?;
+    let kinds = board.kinds();
+    println!(rt, "banks {} {} {}", kinds.register, kinds.bus, kinds.quiet)?;
     for device in board.devices() {
         print_device(rt, device)?;
     }

@@ -19,17 +19,18 @@ use Rattle.order.specs.Rule.{Tests, ordering}
 use Rattle.order.proofs.Exactness.{order-same}
 use Rattle.order.proofs.Executes.{ordering-right}
 use Rattle.board.specs.declared.board.Board.{Board}
-use Rattle.board.specs.declared.device.Device.{Device}
-use Rattle.board.specs.declared.fault.BoardFault.{BoardFault}
-use Rattle.board.specs.declared.fault.BoardFault.the-variants.{Circle}
-use Rattle.board.specs.declared.fault.ReadFault.{ReadFault}
-use Rattle.board.specs.declared.fault.ReadFault.the-variants.{Board as BrokenBy, Memory}
-use Rattle.board.specs.Layout.{device-count, link-count, register-count, bus-count, quiet-count, parent-byte, consumer, supplier}
-use Rattle.board.specs.Rules.{Framed, Right-devices, Right-links}
-use Rattle.board.specs.Contents.{text, parent, devices-of, links-of, Parent-in, Linked-in, Superior-in}
-use Rattle.board.specs.Faults.{Refused}
+use Rattle.boardfile.specs.declared.device.Device.{Device}
+use Rattle.boardfile.specs.declared.fault.BoardFault.{BoardFault}
+use Rattle.boardfile.specs.declared.fault.BoardFault.the-variants.{Circle}
+use Rattle.boardfile.specs.declared.fault.ReadFault.{ReadFault}
+use Rattle.boardfile.specs.declared.fault.ReadFault.the-variants.{Board as BrokenBy, Memory}
+use Rattle.boardfile.specs.Layout.{device-count, link-count, parent-byte, consumer, supplier}
+use Rattle.boardfile.specs.Rules.{Framed, Right-devices, Right-links}
+use Rattle.boardfile.specs.Contents.{text, parent, devices-of, links-of, kinds-of, Parent-in, Linked-in, Superior-in}
+use Rattle.boardfile.specs.Faults.{Refused}
 use Rattle.board.specs.Reading.{Reads, Says}
-use Rattle.board.proofs.Exclusion.{refused-wrong, exact}
+use Rattle.boardfile.proofs.Exclusion.{refused-wrong}
+use Rattle.board.proofs.Exactness.{exact}
 use Rattle.cases.specs.Cases.{Case, Contents, contents, Has-read, Holds}
 use Rattle.cases.proofs.Testing.{records, records-show}
 
@@ -86,16 +87,14 @@ module _ (bs : List ℕ) where
           parents = map (λ (d : Device). d .parent) (devices-of bs);
           words = map (λ (d : Device). d .word) (devices-of bs);
           links = links-of bs;
-          registers = register-count bs;
-          buses = bus-count bs;
-          quiets = quiet-count bs;
+          kinds = kinds-of bs;
           order = order;
         }
 
     pub reads-holds : (order : List ℕ) → ordering (device-count bs) superior ≡ Ok order → (r : Result Board ReadFault) → Reads bs r → Has-read (said order) r
     reads-holds order e (Ok board) (good, says) =
         let same = order-same (device-count bs) (Superior-in bs) _ order (says .order) (subst Given e right) in
-        rw (says .devices, says .links, says .registers, says .buses, says .quiets, same)
+        rw (says .devices, says .links, says .kinds, same)
     reads-holds order e (Err (BrokenBy f)) refused =
         let shown = records-show bs passes in
         let given = subst Given e right in

@@ -15,9 +15,9 @@ use Rattle.std.proofs.shelf.Equals.{sameBytes-decides}
 use Rattle.std.proofs.shelf.Tests.{and-parts, or-cases, not-true, leb-true, ltb-true, ltb-false, eqb-true, eqb-false, cases-lt, lt-ltb, le-ltb, cond-true}
 use Rattle.std.proofs.shelf.Ways.{decides-eqb, decides-ltb, decides-and, decides-or, decides-like, decides-below-and, decides-below-or, not-from-decides}
 use Rattle.order.specs.Rule.{Tests, all-below}
-use Rattle.board.specs.Limits.{least-bytes, most-bytes, most-devices, most-links}
-use Rattle.board.specs.Layout.{byte, trailer, edition, device-count, link-count, device-distance, link-distance, device-table, link-table, device-place, name-field, parent-byte, link-record, consumer, supplier}
-use Rattle.board.specs.Rules.{Sized, Marked, Counted, Tabled, Named, Letter, Digit, Framed, Right-device, Right-link, Right-devices, Right-links, name-size}
+use Rattle.boardfile.specs.Limits.{least-bytes, most-bytes, most-devices, most-links}
+use Rattle.boardfile.specs.Layout.{byte, trailer, edition, device-count, link-count, device-distance, link-distance, device-table, link-table, device-place, name-field, parent-byte, link-record, consumer, supplier}
+use Rattle.boardfile.specs.Rules.{Sized, Marked, Counted, Tabled, Named, Letter, Digit, Framed, Right-device, Right-link, Right-devices, Right-links, name-size}
 
 all-passes : (n : ℕ) (test : ℕ → Bool) → all-below n test ≡ true → (k : ℕ) → k < n → test k ≡ true
 all-passes n test = decides-below-and test (λ k. test k ≡ true) (λ m. all-below m test) (λ k. ((λ e. e), (λ e. e))) refl (λ _. refl) n .0

@@ -11,13 +11,14 @@ use Rattle.std.specs.declared.result.Result.{Result}
 use Rattle.std.specs.declared.result.Result.the-variants.{Ok, Err}
 use Rattle.order.specs.Answers.{devices}
 use Rattle.board.specs.declared.board.Board.{Board}
-use Rattle.board.specs.declared.device.Device.{Device}
-use Rattle.board.specs.declared.device.Link.{Link}
-use Rattle.board.specs.declared.fault.BoardFault.{BoardFault}
-use Rattle.board.specs.declared.fault.BoardFault.the-variants.{Circle}
-use Rattle.board.specs.declared.fault.ReadFault.{ReadFault}
-use Rattle.board.specs.declared.fault.ReadFault.the-variants.{Board as BrokenBy, Memory}
-use Rattle.board.specs.Contents.{text}
+use Rattle.boardfile.specs.declared.device.Device.{Device}
+use Rattle.boardfile.specs.declared.device.Kinds.{Kinds}
+use Rattle.boardfile.specs.declared.device.Link.{Link}
+use Rattle.boardfile.specs.declared.fault.BoardFault.{BoardFault}
+use Rattle.boardfile.specs.declared.fault.BoardFault.the-variants.{Circle}
+use Rattle.boardfile.specs.declared.fault.ReadFault.{ReadFault}
+use Rattle.boardfile.specs.declared.fault.ReadFault.the-variants.{Board as BrokenBy, Memory}
+use Rattle.boardfile.specs.Contents.{text}
 use Rattle.board.specs.Reading.{Reads}
 use Rattle.cases.specs.Boards.{three-devices, four-devices, circle}
 
@@ -28,9 +29,7 @@ pub record Contents : Type 0 where
   pub parents : List (Option ℕ)
   pub words : List ℕ
   pub links : List Link
-  pub registers : ℕ
-  pub buses : ℕ
-  pub quiets : ℕ
+  pub kinds : Kinds
   pub order : List ℕ
 
 abbrev pub contents : Board → Contents
@@ -40,9 +39,7 @@ contents board =
       parents = map (λ (d : Device). d .parent) (vec-items (board .devices));
       words = map (λ (d : Device). d .word) (vec-items (board .devices));
       links = vec-items (board .links);
-      registers = board .register;
-      buses = board .bus;
-      quiets = board .quiet;
+      kinds = board .kinds;
       order = devices (board .order);
     }
 
@@ -73,9 +70,7 @@ cases =
       parents = None ∷ None ∷ Some 1 ∷ [];
       words = 0x21A1B2C3 ∷ 0 ∷ 0x500 ∷ [];
       links = record { consumer = 1; supplier = 0 } ∷ [];
-      registers = 1;
-      buses = 2;
-      quiets = 0;
+      kinds = record { register = 1; bus = 2; quiet = 0 };
       order = 0 ∷ 1 ∷ 2 ∷ [];
     })
     ∷ reads four-devices
@@ -84,9 +79,7 @@ cases =
       parents = None ∷ None ∷ Some 0 ∷ None ∷ [];
       words = 0 ∷ 0 ∷ 0 ∷ 0 ∷ [];
       links = record { consumer = 0; supplier = 3 } ∷ [];
-      registers = 4;
-      buses = 0;
-      quiets = 0;
+      kinds = record { register = 4; bus = 0; quiet = 0 };
       order = 1 ∷ 3 ∷ 0 ∷ 2 ∷ [];
     })
     ∷ refuses circle (Circle 0)

@@ -21,9 +21,9 @@ use Rattle.order.specs.Orders.{Permutes}
 use Rattle.order.specs.Answers.{Superior, is-superior, devices}
 use Rattle.order.proofs.Exactness.{ordered}
 use Rattle.order.proofs.Tables.{is-superior-tests}
-use Rattle.board.specs.declared.device.Device.{Device}
-use Rattle.board.specs.Contents.{blank, text, Ascii-names}
-use Rattle.board.specs.Rules.{name-size, not-zero, shortened}
+use Rattle.boardfile.specs.declared.device.Device.{Device}
+use Rattle.boardfile.specs.Contents.{blank, text, Ascii-names}
+use Rattle.boardfile.specs.Rules.{name-size, not-zero, shortened}
 
 -- one more byte
 pub byte-more : (base bytes was after code : List ℕ) (i c : ℕ) → i < length bytes → was ≡ base ++ take i bytes → after ≡ was ++ code → code ≡ c ∷ [] → c ≡ getD bytes i 0 → after ≡ base ++ take (i + 1) bytes

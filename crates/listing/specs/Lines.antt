@@ -9,7 +9,7 @@ use Rattle.std.specs.Of.Vec.{vec-items}
 use Rattle.std.specs.shelf.Lists.{joined, Has}
 use Rattle.order.specs.Answers.{Superior, superiors-of, devices}
 use Rattle.board.specs.declared.board.Board.{Board}
-use Rattle.board.specs.Contents.{blank, text}
+use Rattle.boardfile.specs.Contents.{blank, text}
 
 abbrev pub name-of : Board → ℕ → List ℕ
 name-of board d = text (getD (vec-items (board .devices)) d blank .name)

@@ -7,9 +7,9 @@ use lib.Chars.{codes}
 use Rattle.std.specs.Of.String.{string-bytes}
 use Rattle.refusal.specs.Lines.{line as refusal-line}
 use Rattle.board.specs.declared.board.Board.{Board}
-use Rattle.board.specs.declared.fault.BoardFault.{BoardFault}
-use Rattle.board.specs.Faults.{Refused, told}
-use Rattle.board.specs.Reading.{Right, Says}
+use Rattle.boardfile.specs.declared.fault.BoardFault.{BoardFault}
+use Rattle.boardfile.specs.Faults.{Refused, Right, told}
+use Rattle.board.specs.Reading.{Says}
 use Rattle.listing.specs.declared.printing.Printout.{Printout}
 use Rattle.listing.specs.Lines.{lines}
 

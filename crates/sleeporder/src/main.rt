@@ -26,5 +26,9 @@ fn main(rt: LibcRuntime) -> Result<(), Ended> {
     if print!(rt, "{}", printout.text.as_str()).is_err() {
         return Err(Ended::NotWritten);
     }
-    if printout.accepted { Ok(()) } else { Err(Ended::Refused) }
+    if printout.accepted {
+        Ok(())
+    } else {
+        Err(Ended::Refused)
+    }
 }

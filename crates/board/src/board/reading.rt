@@ -1,18 +1,19 @@
 // From the bytes of a board file to the board, and what can be asked of it.
 use crate::board::Board;
-use crate::device::Device;
-use crate::device::Link;
-use crate::fault::BoardFault;
-use crate::fault::BoardFaultFromCircle;
-use crate::fault::ReadFault;
-use crate::fault::ReadFaultFromAlloc;
-use crate::fault::ReadFaultFromBoard;
 use crate::records::check_devices;
 use crate::records::check_links;
 use crate::records::device_in;
 use crate::records::link_of;
-use crate::trailer::Trailer;
 use crate::wiring::wire;
+use boardfile::device::Device;
+use boardfile::device::Kinds;
+use boardfile::device::Link;
+use boardfile::fault::BoardFault;
+use boardfile::fault::BoardFaultFromCircle;
+use boardfile::fault::ReadFault;
+use boardfile::fault::ReadFaultFromAlloc;
+use boardfile::fault::ReadFaultFromBoard;
+use frame::frame::Frame;
 use order::ordering::Order;
 use order::superiors::Superiors;
 use std::alloc::AllocError;
@@ -21,54 +22,54 @@ ghost use mathlib.Core.Path.{_≡_};
 ghost use Rattle.std.specs.Of.Vec.{vec-items, vec-len};
 ghost use Rattle.std.specs.Results.{Cases as ByOk};
 ghost use Rattle.std.specs.Vec.{made};
-ghost use Rattle.board.specs.Layout.{device-count};
-ghost use Rattle.board.specs.Rules.{Framed, Right-devices, Right-links};
-ghost use Rattle.board.specs.Contents.{devices-of, links-of, Ascii-names};
-ghost use Rattle.board.specs.Faults.{Refused};
-ghost use Rattle.board.specs.Trailers.{Trailer-of};
+ghost use Rattle.boardfile.specs.Layout.{device-count};
+ghost use Rattle.boardfile.specs.Rules.{Framed, Right-devices, Right-links};
+ghost use Rattle.boardfile.specs.Contents.{devices-of, links-of, Ascii-names};
+ghost use Rattle.boardfile.specs.Faults.{Refused};
+ghost use Rattle.frame.specs.Frames.{Frame-of};
 ghost use Rattle.board.specs.Wiring.{Ordered};
-ghost use Rattle.board.specs.Laws.{Laws};
+ghost use Rattle.boardfile.specs.Laws.{Laws};
 ghost use Rattle.board.specs.Reading.{Reads, Exact};
 
 // The devices that the records say.
-fn read_devices(heap: Global, bytes: &[u8], trailer: &Trailer) -> Result<Vec<Device>, AllocError>
+fn read_devices(heap: Global, bytes: &[u8], frame: &Frame) -> Result<Vec<Device>, AllocError>
     requires framed { ⌜ Framed (now bytes) ⌝ }
-    requires trailer { ⌜ Trailer-of (now bytes) (now trailer) ⌝ }
+    requires frame { ⌜ Frame-of (now bytes) (now frame) ⌝ }
     requires devices { ⌜ Right-devices (now bytes) ⌝ }
     ensures { λ r. ⌜ made r (λ v. (vec-items v ≡ devices-of (now (bytes .entry))) × (vec-len v ≡ device-count (now (bytes .entry))) × Ascii-names (vec-items v)) ⌝ }
 {
-    let n = trailer.counts.devices;
+    let n = frame.counts.devices;
     let mut devices = Vec::with_capacity(heap, n as usize)?;
     for i in 0..n {
-        devices.push(device_in(bytes, trailer, i))?;
+        devices.push(device_in(bytes, frame, i))?;
     }
     Ok(devices)
 }
 
 // The links that the records say.
-fn read_links(heap: Global, bytes: &[u8], trailer: &Trailer) -> Result<Vec<Link>, AllocError>
+fn read_links(heap: Global, bytes: &[u8], frame: &Frame) -> Result<Vec<Link>, AllocError>
     requires framed { ⌜ Framed (now bytes) ⌝ }
-    requires trailer { ⌜ Trailer-of (now bytes) (now trailer) ⌝ }
+    requires frame { ⌜ Frame-of (now bytes) (now frame) ⌝ }
     requires links { ⌜ Right-links (now bytes) ⌝ }
     ensures { λ r. ⌜ made r (λ v. vec-items v ≡ links-of (now (bytes .entry))) ⌝ }
 {
-    let m = trailer.counts.links;
+    let m = frame.counts.links;
     let mut links = Vec::with_capacity(heap, m as usize)?;
     for j in 0..m {
-        links.push(link_of(bytes, trailer, j))?;
+        links.push(link_of(bytes, frame, j))?;
     }
     Ok(links)
 }
 
 // The order of a board whose records are right, or the device from which superiors run in a circle.
-fn read_order(bytes: &[u8], trailer: &Trailer) -> Result<Order, BoardFault>
+fn read_order(bytes: &[u8], frame: &Frame) -> Result<Order, BoardFault>
     requires framed { ⌜ Framed (now bytes) ⌝ }
-    requires trailer { ⌜ Trailer-of (now bytes) (now trailer) ⌝ }
+    requires frame { ⌜ Frame-of (now bytes) (now frame) ⌝ }
     requires devices { ⌜ Right-devices (now bytes) ⌝ }
     requires links { ⌜ Right-links (now bytes) ⌝ }
     ensures { λ r. ⌜ ByOk r (Ordered (now (bytes .entry))) (Refused (now (bytes .entry))) ⌝ }
 {
-    Ok(wire(bytes, trailer).order()?)
+    Ok(wire(bytes, frame).order()?)
 }
 
 impl Board {
@@ -85,19 +86,16 @@ impl Board {
     fn load(heap: Global, bytes: &[u8]) -> Result<Board, ReadFault>
         ensures { λ r. ⌜ Reads (now (bytes .entry)) r ⌝ }
     {
-        let trailer = Trailer::read(bytes)?;
-        check_devices(bytes, &trailer)?;
-        check_links(bytes, &trailer)?;
-        let order = read_order(bytes, &trailer)?;
-        let devices = read_devices(heap, bytes, &trailer)?;
-        let links = read_links(heap, bytes, &trailer)?;
-        let counts = trailer.counts;
+        let frame = Frame::read(bytes)?;
+        check_devices(bytes, &frame)?;
+        check_links(bytes, &frame)?;
+        let order = read_order(bytes, &frame)?;
+        let devices = read_devices(heap, bytes, &frame)?;
+        let links = read_links(heap, bytes, &frame)?;
         Ok(Board {
             devices,
             links,
-            register: counts.register,
-            bus: counts.bus,
-            quiet: counts.quiet,
+            kinds: frame.counts.kinds,
             order,
         })
     }
@@ -116,25 +114,11 @@ impl Board {
         self.links.as_slice()
     }
 
-    // How many devices sit in registers.
-    pub fn register_count(&self) -> u8
-        ensures { λ r. ⌜ r ≡ now (self .entry) .register ⌝ }
+    // How many devices sit in each kind of bank.
+    pub fn kinds(&self) -> Kinds
+        ensures { λ r. ⌜ r ≡ now (self .entry) .kinds ⌝ }
     {
-        self.register
-    }
-
-    // How many sit on the bus.
-    pub fn bus_count(&self) -> u8
-        ensures { λ r. ⌜ r ≡ now (self .entry) .bus ⌝ }
-    {
-        self.bus
-    }
-
-    // How many are quiet.
-    pub fn quiet_count(&self) -> u8
-        ensures { λ r. ⌜ r ≡ now (self .entry) .quiet ⌝ }
-    {
-        self.quiet
+        self.kinds
     }
 
     // The order of the devices.

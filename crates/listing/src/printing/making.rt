@@ -1,7 +1,7 @@
 use crate::lines::order_lines;
 use crate::printing::Printout;
 use board::board::Board;
-use board::fault::ReadFault;
+use boardfile::fault::ReadFault;
 use refusal::Refusal;
 use refusal::RefusalDisplay;
 use std::alloc::AllocError;
@@ -27,8 +27,14 @@ impl Printout {
         ensures { λ r. ⌜ made r (Prints (now (bytes .entry))) ⌝ }
     {
         match Board::read(heap, bytes) {
-            Ok(board) => Ok(Printout { text: order_lines(heap, &board)?, accepted: true }),
-            Err(ReadFault::Board { fault }) => Ok(Printout { text: refusal_line(heap, fault.refusal())?, accepted: false }),
+            Ok(board) => Ok(Printout {
+                text: order_lines(heap, &board)?,
+                accepted: true,
+            }),
+            Err(ReadFault::Board { fault }) => Ok(Printout {
+                text: refusal_line(heap, fault.refusal())?,
+                accepted: false,
+            }),
             Err(ReadFault::Memory) => Err(AllocError),
         }
     }

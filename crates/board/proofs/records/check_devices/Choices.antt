@@ -1,5 +1,5 @@
 use Prim.Native.Nat.{ℕ, _<_}
-use Rattle.board.specs.Rules.{Right-device}
+use Rattle.boardfile.specs.Rules.{Right-device}
 use Rattle.board.proofs.records.check_devices.Given as given
 
 abbrev pub Inv-loop-i : given.InvT-loop-i

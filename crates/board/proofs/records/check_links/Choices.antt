@@ -1,5 +1,5 @@
 use Prim.Native.Nat.{ℕ, _<_}
-use Rattle.board.specs.Rules.{Right-link}
+use Rattle.boardfile.specs.Rules.{Right-link}
 use Rattle.board.proofs.records.check_links.Given as given
 
 abbrev pub Inv-loop-j : given.InvT-loop-j

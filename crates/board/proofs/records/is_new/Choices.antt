@@ -1,6 +1,6 @@
 use mathlib.Core.Path.{_≡_}
 use Prim.Native.Nat.{ℕ, _<_}
-use Rattle.board.specs.Layout.{name-field}
+use Rattle.boardfile.specs.Layout.{name-field}
 use Rattle.board.proofs.records.is_new.Given as given
 
 abbrev pub Inv-loop-j : given.InvT-loop-j

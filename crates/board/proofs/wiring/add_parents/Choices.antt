@@ -1,5 +1,5 @@
 use Prim.Native.Nat.{_<_}
-use Rattle.board.specs.Contents.{Parent-in}
+use Rattle.boardfile.specs.Contents.{Parent-in}
 use Rattle.board.specs.Wiring.{Gains}
 use Rattle.board.proofs.wiring.add_parents.Given as given
 

@@ -15,11 +15,11 @@ loop-s-again c =
     let d = c .args .device in
     elim (c .if-has .came) [
       | then-has·in-Continue-push-spaced w ↦
-      pass-more (spaced board) (λ s. is-superior table s d) _ (c .loop-s .s) (string-bytes (c .loop-s .text)) _ (codes " ") (name-of board (c .loop-s .s)) (c .loop-s .inv)
-      (tested table _ (c .superiors-superiors .ensures) (c .loop-s .s) d (c .has .result) true (c .has .ensures) (w .if-has .taken))
-      refl (ap string-bytes (w .text-is) ∙ w .in-Continue-push-spaced .ensures tt)
+          pass-more (spaced board) (λ s. is-superior table s d) _ (c .loop-s .s) (string-bytes (c .loop-s .text)) _ (codes " ") (name-of board (c .loop-s .s)) (c .loop-s .inv)
+          (tested table _ (c .superiors-superiors .ensures) (c .loop-s .s) d (c .has .result) true (c .has .ensures) (w .if-has .taken))
+          refl (ap string-bytes (w .text-is) ∙ w .in-Continue-push-spaced .ensures tt)
       | else-has w ↦
-      fail-more (spaced board) (λ s. is-superior table s d) _ (c .loop-s .s) _ _ (c .loop-s .inv)
-      (tested table _ (c .superiors-superiors .ensures) (c .loop-s .s) d (c .has .result) false (c .has .ensures) (w .if-has .left))
-      (ap string-bytes (w .text-is))
+          fail-more (spaced board) (λ s. is-superior table s d) _ (c .loop-s .s) _ _ (c .loop-s .inv)
+          (tested table _ (c .superiors-superiors .ensures) (c .loop-s .s) d (c .has .result) false (c .has .ensures) (w .if-has .left))
+          (ap string-bytes (w .text-is))
     ]

@@ -1,5 +1,5 @@
-use Rattle.board.proofs.Exclusion.{exact}
-use Rattle.board.proofs.Naming.{laws}
+use Rattle.board.proofs.Exactness.{exact}
+use Rattle.boardfile.proofs.Naming.{laws}
 use Rattle.board.proofs.board.Board.read.Needs as need
 
 pub returns : need.returns

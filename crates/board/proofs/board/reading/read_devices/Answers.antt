@@ -3,10 +3,10 @@ use mathlib.Core.List.{map}
 use native.Mathlib.Omega.{arith}
 use Rattle.std.specs.Iters.{counting}
 use Rattle.std.specs.Of.Vec.{vec-items}
-use Rattle.board.specs.Layout.{device-count}
-use Rattle.board.specs.Contents.{device-of, devices-of}
+use Rattle.boardfile.specs.Layout.{device-count}
+use Rattle.boardfile.specs.Contents.{device-of, devices-of}
 use Rattle.board.proofs.Filling.{one-more}
-use Rattle.board.proofs.Naming.{ascii-names}
+use Rattle.boardfile.proofs.Naming.{ascii-names}
 use Rattle.board.proofs.board.reading.read_devices.Needs as need
 
 pub loop-i-again : need.loop-i-again

@@ -1,4 +1,4 @@
-use Rattle.board.specs.Contents.{link-of}
+use Rattle.boardfile.specs.Contents.{link-of}
 use Rattle.board.proofs.Filling.{one-more}
 use Rattle.board.proofs.board.reading.read_links.Needs as need
 
