@@ -1,4 +1,6 @@
 // Boards: from the bytes of a board file to the board that it describes, or to the rule that it breaks.
+#![tactic(auto)]
+
 pub mod board;
 mod records;
 mod wiring;

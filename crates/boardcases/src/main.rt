@@ -1,5 +1,7 @@
 // Reads many board files, good and damaged, and prints what each says or why it is refused. What it has to print comes
 // from the model, which is written in another language from the documents alone.
+#![tactic(auto)]
+
 use anyhow::anyhow;
 use board::board::Board;
 use boardfile::device::{Device, Name};

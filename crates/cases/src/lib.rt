@@ -1,4 +1,6 @@
 // The worked cases: board files, and what is to come of each.
+#![tactic(auto)]
+
 ghost use Rattle.std.specs.Prelude.{◌≡◌, ◌<◌, ◌≤◌, [], length, MatchOption, slice_index_or};
 ghost use Rattle.cases.specs.Cases.{AllHold, cases, boards};
 

@@ -1,4 +1,6 @@
 // The library for callers in C and Rust, over numbers and slices of bytes. A slice goes as a pointer and a length.
+#![tactic(auto)]
+
 ghost use Rattle.std.specs.Prelude.{◌≤◌, length};
 ghost use Rattle.exports.specs.Exports.{Writes, OrderWritten, NumberOf, PlaceOf};
 

@@ -1,3 +1,5 @@
 // The frame of a board file: its length and its trailer.
+#![tactic(auto)]
+
 pub mod frame;
 mod limits;

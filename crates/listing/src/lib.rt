@@ -1,3 +1,5 @@
 // What is printed of a board file: its devices in their order, or why it is refused.
+#![tactic(auto)]
+
 pub mod lines;
 pub mod printing;

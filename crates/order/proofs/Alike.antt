@@ -1,6 +1,6 @@
 -- Two relations that say the same have the same orders.
 use Rattle.std.proofs.Common.{ℕ, List}
-use Rattle.order.specs.Orders.{Precedes, Ready, LeastFirst, Endless, Orderable, Circular, IsTheOrder}
+use Rattle.order.specs.Orders.{Precedes, Ready, Endless, Orderable, Circular, IsTheOrder}
 
 module _ (n : ℕ) (R R' : ℕ → ℕ → Type 0) (there : (s d : ℕ) → R s d → R' s d) (back : (s d : ℕ) → R' s d → R s d) where
   precedes_alike : (order : List ℕ) → Precedes n R order → Precedes n R' order

@@ -1,10 +1,10 @@
 -- Sets of numbers as bits.
-use Rattle.std.proofs.Common.{◌≡◌, ℕ, zero, suc, ◌+◌, ◌-◌, ◌*◌, ◌/◌, ◌%◌, ◌^◌, ◌<◌, ◌≤◌, min, max, Bool, true, false, eqb, ◌⊎◌, Decides, MatchBool, sym, refl, ap, ◌∙◌, subst, inl, inr, pow-suc, div-one, one-add, arith}
+use Rattle.std.proofs.Common.{◌≡◌, ℕ, zero, suc, ◌+◌, ◌-◌, ◌*◌, ◌/◌, ◌%◌, ◌^◌, ◌<◌, min, max, Bool, true, false, eqb, ◌⊎◌, Decides, MatchBool, sym, refl, ap, ◌∙◌, inl, inr, pow-suc, div-one, one-add, arith}
 use native.Mathlib.Nat.{div-eq_of_lt, div_self, mul-mod_left}
 use lib.Bits.{bit_and, bit_or, and_step, or_step, and_mask, and_le_l}
 use Rattle.std.proofs.lemmas.Nat.{pow_pos, pow-add, shl-shr, shr-shr, and_shr, or_shr, pow_below, one_shl}
 use Rattle.std.proofs.lemmas.Bool.{cases_eq, cases_order, eqb-true, eqb-false, eq-eqb}
-use Rattle.order.specs.Sets.{Bit, In, With}
+use Rattle.order.specs.Sets.{Bit, With}
 use Rattle.order.specs.declared.set.DeviceSet.{DeviceSet}
 use Rattle.order.proofs.Finding.{Decided, search_below}
 

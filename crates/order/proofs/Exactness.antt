@@ -1,5 +1,5 @@
 -- What follows of an order from its type, and of an answer from its two ways.
-use Rattle.std.proofs.Common.{◌≡◌, ℕ, ◌<◌, Bool, true, false, ◌⊎◌, ◌↔◌, List, length, take, is_ok, Ok, Err, Result, sym, refl, ap, ◌∙◌, subst, inl, inr, arith, MatchResult}
+use Rattle.std.proofs.Common.{◌≡◌, ℕ, ◌<◌, true, false, ◌⊎◌, ◌↔◌, List, is_ok, Ok, Err, Result, sym, refl, ap, subst, inl, inr, arith, MatchResult}
 use Rattle.std.proofs.lemmas.List.{length-take-le}
 use Rattle.std.proofs.lemmas.Bool.{cases_order, true≢false}
 use Rattle.order.specs.declared.superiors.Superiors.{Superiors}
@@ -7,7 +7,7 @@ use Rattle.order.specs.declared.ordering.Order.{Order}
 use Rattle.order.specs.declared.ordering.Circle.{Circle}
 use Rattle.order.specs.Orders.{IsTheOrder, Circular, Orderable}
 use Rattle.order.specs.Answers.{Superior, devices, Answers, answered, Exact}
-use Rattle.order.specs.Rule.{Tests, ordering}
+use Rattle.order.specs.Rule.{ordering}
 use Rattle.order.proofs.Relations.{kept_order, least_unique}
 use Rattle.order.proofs.Executes.{ordering_right}
 

@@ -1,9 +1,9 @@
 -- Orders over any relation R whose both sides are below n.
-use Rattle.std.proofs.Common.{◌≡◌, ℕ, zero, suc, ◌+◌, ◌-◌, ◌<◌, ◌≤◌, ◌⊎◌, List, [], ◌∷◌, ◌++◌, length, get_or, sym, refl, ap, ◌∙◌, subst, inl, inr, arith}
+use Rattle.std.proofs.Common.{◌≡◌, ℕ, zero, suc, ◌<◌, ◌≤◌, ◌⊎◌, List, [], ◌∷◌, ◌++◌, length, get_or, sym, refl, ap, ◌∙◌, subst, inl, inr, arith}
 use Rattle.std.proofs.lemmas.List.{ext_get_or, get_or_append_left, get_or_push, length_push}
-use Rattle.std.proofs.lemmas.Bool.{cases_lt, cases_eq, cases_order}
-use Rattle.order.specs.Orders.{Placed, Before, Permutes, Precedes, Least, Ready, LeastFirst, Endless, Orderable, Circular, IsTheOrder, Pinned, Inside, Once, SuperiorsEarlier, NoneLess}
-use Rattle.order.proofs.Finding.{Decided, by_less, search_below, choose, Injects, pigeon, covers}
+use Rattle.std.proofs.lemmas.Bool.{cases_lt, cases_order}
+use Rattle.order.specs.Orders.{Placed, Before, Permutes, Precedes, Least, Ready, LeastFirst, Endless, Circular, IsTheOrder, Pinned, Inside, Once, SuperiorsEarlier, NoneLess}
+use Rattle.order.proofs.Finding.{by_less, choose, Injects, pigeon, covers}
 
 -- ---- chains
 

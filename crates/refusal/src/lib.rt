@@ -1,4 +1,6 @@
 // What is told of a refusal, whichever layer refused.
+#![tactic(auto)]
+
 mod refusal;
 
 pub use refusal::Refusal;

@@ -1,4 +1,6 @@
 // sleeporder: prints the order in which the devices of the board in `board.bin` go to sleep, or why the file is refused.
+#![tactic(auto)]
+
 use listing::printing::Printout;
 use std::fs;
 

@@ -21,17 +21,17 @@ loop-device-preserved c =
     runs_append c.args.self c.loop-device.row c.loop-device.invariant c.in-Some.device c.in-Some.ensures
     c.append.new.self c.append.ensures.places c.append.ensures.taken c.append.ensures.placed
 
-pub invariant-of-result : goal.invariant-of-result
-invariant-of-result c =
+pub invariant_of-result : goal.invariant_of-result
+invariant_of-result c =
     let table = c.args.self in
     let kept = order_kept table.count (Above table.sets) table.known _ (runs_all table c.loop-device.row c.loop-device.invariant c.in-None.ensures) in
-    (c.loop-device.invariant.long, (kept.0, (kept.1, (kept.2, (kept.3, tt)))))
+    record { long = c.loop-device.invariant.long; inside = kept.0; once = kept.1; earlier = kept.2; least = kept.3 }
 
-pub returns-in-Some-least-absent : goal.returns-in-Some-least-absent
-returns-in-Some-least-absent c =
-    let left = c.in-Some-least-absent.ensures in
-    let circular = runs_stuck c.args.self c.loop-device.row c.loop-device.invariant c.in-default.ensures c.in-Some-least-absent.device left.0 left.1 left.2 in
-    record { answers = circular; exact = exact c.args.self (Err (record { device = c.in-Some-least-absent.device })) circular }
+pub returns-in-Some-least_absent : goal.returns-in-Some-least_absent
+returns-in-Some-least_absent c =
+    let left = c.in-Some-least_absent.ensures in
+    let circular = runs_stuck c.args.self c.loop-device.row c.loop-device.invariant c.in_default.ensures c.in-Some-least_absent.device left.0 left.1 left.2 in
+    record { answers = circular; exact = exact c.args.self (Err (record { device = c.in-Some-least_absent.device })) circular }
 
 pub returns-in-None : goal.returns-in-None
 returns-in-None c = record { answers = refl; exact = exact c.args.self (Ok _) refl }
