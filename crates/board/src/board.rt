@@ -1,5 +1,4 @@
 // A board: its devices and links, and the order of its devices.
-mod asking;
 mod checking;
 mod reading;
 

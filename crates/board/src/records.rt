@@ -61,7 +61,7 @@ fn link_in(bytes: &[u8]) -> Option<Link>
     let [consumer, supplier, rest @ ..] = bytes else {
         return None;
     };
-    if rest != b"\0\0" {
+    if rest != b"\0\0".as_slice() {
         return None;
     }
     Some(Link {

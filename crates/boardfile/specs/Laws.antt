@@ -1,5 +1,5 @@
 -- What follows from the rules of a board file.
-use Rattle.std.specs.Prelude.{◌≡◌, ℕ, ◌+◌, ◌<◌, ◌≤◌, ◌↔◌, List, length, ◌≢◌}
+use Rattle.std.specs.Prelude.{ℕ, ◌+◌, ◌<◌, ◌≤◌, ◌↔◌, List, length, ◌≢◌}
 use Rattle.boardfile.specs.Layout.{device_count, name_field}
 use Rattle.boardfile.specs.Rules.{Apart, Framed, RightDevices, shortened}
 

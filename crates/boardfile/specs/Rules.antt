@@ -1,5 +1,5 @@
 -- The rules of a board file, in the order in which they are tested.
-use Rattle.std.specs.Prelude.{◌≡◌, ℕ, ◌+◌, ◌-◌, ◌*◌, ◌<◌, ◌≤◌, Bool, not, ◌⊎◌, List, length, take, codes, ◌==◌, ◌≢◌, slice_index}
+use Rattle.std.specs.Prelude.{◌≡◌, ℕ, ◌+◌, ◌*◌, ◌<◌, ◌≤◌, Bool, not, ◌⊎◌, List, length, take, codes, ◌==◌, ◌≢◌, slice_index}
 use Rattle.std.specs.List.{between, prefix_len}
 use Rattle.boardfile.specs.Limits.{least_bytes, most_bytes, most_devices, most_links}
 use Rattle.boardfile.specs.Layout.{byte, trailer, edition, device_count, link_count, device_distance, link_distance, device_table, link_table, device_place, name_field, parent_byte, link_record, consumer, supplier}

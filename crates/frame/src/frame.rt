@@ -58,7 +58,7 @@ fn check_mark(bytes: &[u8], at: u16) -> Result<(), BoardFault>
     ensures { MatchResult result (λ _. Marked bytes.now) (Refused bytes.now) }
 {
     let t = at as usize;
-    if &bytes[t..t + 4] != b"SLPB" || bytes[t + 4] != 1 {
+    if &bytes[t..t + 4] != b"SLPB".as_slice() || bytes[t + 4] != 1 {
         return Err(BoardFault::Mark { at });
     }
     Ok(())

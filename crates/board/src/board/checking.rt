@@ -20,7 +20,7 @@ pub(crate) struct Checked {
 }
 
 // The order of a board whose records are right, or the device from which superiors run in a circle.
-fn find_order(bytes: &[u8], frame: &Frame) -> Result<Order, BoardFault>
+fn read_order(bytes: &[u8], frame: &Frame) -> Result<Order, BoardFault>
     requires framed { Framed bytes.now }
     requires frame { FrameOf bytes.now frame.now }
     requires devices { RightDevices bytes.now }
@@ -37,7 +37,7 @@ pub(crate) fn examine(bytes: &[u8]) -> Result<Checked, BoardFault>
     let frame = Frame::read(bytes)?;
     check_devices(bytes, &frame)?;
     check_links(bytes, &frame)?;
-    let order = find_order(bytes, &frame)?;
+    let order = read_order(bytes, &frame)?;
     Ok(Checked { frame, order })
 }
 

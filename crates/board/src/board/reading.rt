@@ -1,4 +1,4 @@
-// From the bytes of a board file to the board.
+// From the bytes of a board file to the board, and what can be asked of it.
 ghost use Rattle.std.specs.Prelude.{◌≡◌, IfOk, vec_len};
 ghost use Rattle.boardfile.specs.Layout.{device_count};
 ghost use Rattle.boardfile.specs.Rules.{Framed, RightDevices, RightLinks};
@@ -10,9 +10,11 @@ ghost use Rattle.board.specs.Reading.{Reads, Exact};
 use crate::board::Board;
 use crate::board::checking::{Checked, examine};
 use crate::records::{device_in, link_of};
-use boardfile::device::{Device, Link};
+use boardfile::device::{Device, Kinds, Link};
 use boardfile::fault::ReadFault;
 use frame::frame::Frame;
+use order::ordering::Order;
+use order::superiors::Superiors;
 use std::alloc::{AllocError, Global};
 
 // The devices that the records say.
@@ -68,5 +70,40 @@ impl Board {
             kinds: frame.counts.kinds,
             order,
         })
+    }
+
+    // The devices by number.
+    pub fn devices(&self) -> &[Device]
+        ensures { result.now ≡ self.now.devices.items }
+    {
+        self.devices.as_slice()
+    }
+
+    // The links, as the file has them.
+    pub fn links(&self) -> &[Link]
+        ensures { result.now ≡ self.now.links.items }
+    {
+        self.links.as_slice()
+    }
+
+    // How many devices sit in each kind of bank.
+    pub fn kinds(&self) -> Kinds
+        ensures { result ≡ self.now.kinds }
+    {
+        self.kinds
+    }
+
+    // The order of the devices.
+    pub fn order(&self) -> &Order
+        ensures { result.now ≡ self.now.order }
+    {
+        &self.order
+    }
+
+    // Who is whose superior.
+    pub fn superiors(&self) -> &Superiors
+        ensures { result.now ≡ self.now.order.superiors }
+    {
+        self.order.superiors()
     }
 }

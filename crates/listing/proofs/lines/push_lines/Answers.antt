@@ -14,7 +14,7 @@ loop-device-preserved c =
     let board = c.args.board.now in
     let d = get_or c.devices-device-items.result.now c.loop-device.device-index 0 in
     text_more (line board) (devices board.order) _ (string_bytes c.loop-device.text) _ (name_of board d) (flat_map (spaced board) (superiors_of board.order.superiors d)) (codes "\n")
-    c.loop-device.device-index (c.devices-device-items.ensures.value ∙ ap devices c.order.ensures) c.loop-device-test.true c.loop-device.invariant refl c.in-ok-push-line.ensures
+    c.loop-device.device-index (c.devices-device-items.ensures.value ∙ ap devices c.order.ensures) c.loop-device-test.true c.loop-device.invariant refl c.in_ok-push-line.ensures
 
 pub returns : goal.returns
 returns c =

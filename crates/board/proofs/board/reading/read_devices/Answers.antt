@@ -8,8 +8,8 @@ use Rattle.board.proofs.board.reading.read_devices.Goals as goal
 
 pub loop-i-preserved : goal.loop-i-preserved
 loop-i-preserved c = (
-  one_more (device_of c.args.bytes.now) _ _ c.loop-i.i _ c.loop-i.invariant.0 c.in-ok-push.ensures.items c.device-in.ensures,
-  omega (arith, c.in-ok-push.ensures.len),
+  one_more (device_of c.args.bytes.now) _ _ c.loop-i.i _ c.loop-i.invariant.0 c.in_ok-push.ensures.items c.device_in.ensures,
+  omega (arith, c.in_ok-push.ensures.len),
 )
 
 pub returns : goal.returns

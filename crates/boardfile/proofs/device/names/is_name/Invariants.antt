@@ -1,5 +1,5 @@
 use Rattle.std.proofs.Common.{◌≡◌, ℕ, ◌<◌, ◌≤◌, ◌⊎◌, get_or}
-use Rattle.boardfile.specs.Rules.{name_size, Letter, Digit}
+use Rattle.boardfile.specs.Rules.{Letter, Digit}
 use Rattle.boardfile.proofs.device.names.is_name.Given as goal
 
 abbrev pub invariant-loop-k : goal.invariant-loop-k
