@@ -1,5 +1,5 @@
 -- A worked case holds where the tests pass and the rule for the order, executed, gives what is expected.
-use Rattle.std.proofs.Common.{◌≡◌, ℕ, zero, suc, ◌<◌, Bool, true, false, cond, ◌&&◌, ◌||◌, eqb, ltb, ◌⊎◌, List, map, Some, None, Ok, Err, Decides, Option, Result, sym, refl, ap, ◌∙◌, subst, inl, inr, arith, MatchResult}
+use Rattle.std.proofs.Common.{◌≡◌, ℕ, zero, suc, ◌<◌, Bool, true, false, cond, ◌&&◌, ◌||◌, eqb, ltb, List, map, Some, None, Ok, Err, Decides, Option, Result, sym, refl, ap, subst, inl, inr, arith, MatchResult}
 use Rattle.std.proofs.lemmas.Bool.{true≢false, eqb-false}
 use Rattle.std.proofs.lemmas.Bool.Decides.{Decides-eqb, Decides-ltb, Decides-and, Decides-or, Decides-below_or, Decides-like}
 use Rattle.order.specs.declared.ordering.Order.{Order}
@@ -14,14 +14,13 @@ use Rattle.boardfile.specs.declared.fault.BoardFault.TheVariants.{Circle}
 use Rattle.boardfile.specs.declared.fault.ReadFault.{ReadFault}
 use Rattle.boardfile.specs.declared.fault.ReadFault.TheVariants.{Board as BrokenBy, Memory}
 use Rattle.boardfile.specs.Layout.{device_count, link_count, parent_byte, consumer, supplier}
-use Rattle.boardfile.specs.Rules.{Framed, RightDevices, RightLinks}
-use Rattle.boardfile.specs.Contents.{text, parent, devices_of, links_of, kinds_of, ParentIn, LinkedIn, SuperiorIn}
+use Rattle.boardfile.specs.Contents.{text, parent, devices_of, links_of, kinds_of, SuperiorIn}
 use Rattle.boardfile.specs.Faults.{Refused, Right}
 use Rattle.board.specs.Checking.{Checks}
-use Rattle.board.specs.Reading.{Reads, Says}
+use Rattle.board.specs.Reading.{Reads}
 use Rattle.boardfile.proofs.Exclusion.{refused_wrong}
 use Rattle.board.proofs.Exactness.{exact, exactly}
-use Rattle.cases.specs.Cases.{Contents, contents, HasRead, HasOrder, ReadAs, RefusedAs}
+use Rattle.cases.specs.Cases.{Contents, HasRead, HasOrder}
 use Rattle.cases.proofs.Testing.{records, records_show}
 
 abbrev some_below : ℕ → (ℕ → Bool) → Bool
@@ -90,20 +89,20 @@ module _ (bs : List ℕ) where
     same_order : (order found : List ℕ) → ordering (device_count bs) superior ≡ Ok order → IsTheOrder (device_count bs) (SuperiorIn bs) found → found ≡ order
     same_order order found e is = order_same (device_count bs) (SuperiorIn bs) found order is (subst Given e right)
 
-    pub reads_holds : (order : List ℕ) → ordering (device_count bs) superior ≡ Ok order → ReadAs bs (said order)
-    reads_holds order e = record { read = read; checked = checked }
-      where
-        read : (r : Result Board ReadFault) → Reads bs r → HasRead (said order) r
-        read (Ok board) (good, says) = rw (says.devices, says.links, says.kinds, same_order order _ e says.order)
-        read (Err (BrokenBy f)) refused = refused_wrong bs f refused (keeps_all order e)
-        read (Err Memory) good = tt
+    pub reads_holds : (order : List ℕ) → ordering (device_count bs) superior ≡ Ok order → (r : Result Board ReadFault) → Reads bs r → HasRead (said order) r
+    reads_holds order e (Ok board) (good, says) = rw (says.devices, says.links, says.kinds, same_order order _ e says.order)
+    reads_holds order e (Err (BrokenBy f)) refused = refused_wrong bs f refused (keeps_all order e)
+    reads_holds order e (Err Memory) good = tt
 
-        checked : (r : Result Order BoardFault) → Checks bs r → HasOrder order r
-        checked (Ok found) (good, ordered) = same_order order _ e ordered.least_first
-        checked (Err f) refused = refused_wrong bs f refused (keeps_all order e)
+    pub reads_checked : (order : List ℕ) → ordering (device_count bs) superior ≡ Ok order → (r : Result Order BoardFault) → Checks bs r → HasOrder order r
+    reads_checked order e (Ok found) (good, ordered) = same_order order _ e ordered.least_first
+    reads_checked order e (Err f) refused = refused_wrong bs f refused (keeps_all order e)
 
-    pub refuses_holds : (d : ℕ) → ordering (device_count bs) superior ≡ Err d → RefusedAs bs (Circle d)
-    refuses_holds d e = record { read = λ r reads. ((exact bs r reads).refuses (Circle d)).1 refused; checked = λ r checks. ((exactly bs r checks).refuses (Circle d)).1 refused }
-      where
-        refused : Refused bs (Circle d)
-        refused = let shown = records_show bs passes in (shown.0, shown.1, shown.2, subst Given e right)
+    refused : (d : ℕ) → ordering (device_count bs) superior ≡ Err d → Refused bs (Circle d)
+    refused d e = let shown = records_show bs passes in (shown.0, shown.1, shown.2, subst Given e right)
+
+    pub refuses_holds : (d : ℕ) → ordering (device_count bs) superior ≡ Err d → (r : Result Board ReadFault) → Reads bs r → r ≡ Err (BrokenBy (Circle d))
+    refuses_holds d e r reads = ((exact bs r reads).refuses (Circle d)).1 (refused d e)
+
+    pub refuses_checked : (d : ℕ) → ordering (device_count bs) superior ≡ Err d → (r : Result Order BoardFault) → Checks bs r → r ≡ Err (Circle d)
+    refuses_checked d e r checks = ((exactly bs r checks).refuses (Circle d)).1 (refused d e)

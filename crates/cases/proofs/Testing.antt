@@ -1,11 +1,11 @@
 -- The rules of a board file as tests that execute, each with what it shows where it passes.
-use Rattle.std.proofs.Common.{◌≡◌, ℕ, ◌+◌, ◌*◌, ◌<◌, ◌≤◌, Bool, true, false, cond, not, ◌&&◌, ◌||◌, eqb, ltb, leb, ◌⊎◌, List, length, get_or, codes, Decides, sym, refl, ap, ◌∙◌, subst, inl, inr, arith}
+use Rattle.std.proofs.Common.{◌≡◌, ℕ, ◌+◌, ◌*◌, ◌<◌, ◌≤◌, Bool, true, cond, not, ◌&&◌, ◌||◌, eqb, ltb, leb, ◌⊎◌, List, length, get_or, codes, refl, inl, inr, arith}
 use Rattle.std.specs.List.{between}
 use Rattle.std.specs.Str.{bytes_eq}
 use Rattle.std.proofs.lemmas.Slice.Eq.{bytes_eq-Decides}
-use Rattle.std.proofs.lemmas.Bool.{and_parts, or_cases, not-true, leb-true, ltb-true, ltb-false, eqb-true, eqb-false, cases_lt, lt-ltb, le-ltb, cond-true}
-use Rattle.std.proofs.lemmas.Bool.Decides.{Decides-eqb, Decides-ltb, Decides-and, Decides-or, Decides-like, Decides-below_and, Decides-below_or, not_from_Decides}
-use Rattle.order.specs.Rule.{Tests, all_below}
+use Rattle.std.proofs.lemmas.Bool.{and_parts, or_cases, not-true, leb-true, ltb-true, eqb-true, eqb-false, lt-ltb, le-ltb}
+use Rattle.std.proofs.lemmas.Bool.Decides.{Decides-below_and, not_from_Decides}
+use Rattle.order.specs.Rule.{all_below}
 use Rattle.boardfile.specs.Limits.{least_bytes, most_bytes, most_devices, most_links}
 use Rattle.boardfile.specs.Layout.{byte, trailer, edition, device_count, link_count, device_distance, link_distance, device_table, link_table, device_place, name_field, parent_byte, link_record, consumer, supplier}
 use Rattle.boardfile.specs.Rules.{Sized, Marked, Counted, Tabled, Named, Letter, Digit, Framed, RightDevice, RightLink, RightDevices, RightLinks, name_size}

@@ -1,6 +1,6 @@
 -- The worked cases, as one list.
 use Rattle.std.specs.Prelude.{◌≡◌, ℕ, List, [], ◌∷◌, map, Some, None, Ok, Err, vec_items, codes, Option, Result}
-use Rattle.std.specs.List.{AllByRecursion as All}
+use Rattle.std.specs.List.{AllByRecursion}
 use Rattle.order.specs.declared.ordering.Order.{Order}
 use Rattle.order.specs.Answers.{devices}
 use Rattle.board.specs.declared.board.Board.{Board}
@@ -51,23 +51,20 @@ HasRead expected (Ok board) = contents board ≡ expected
 HasRead expected (Err (BrokenBy fault)) = ⊥
 HasRead expected (Err Memory) = Unit {0}
 
+-- whatever answer the reader's contract allows is the expected one
+abbrev pub Holds : Case → Type 0
+Holds (reads bytes expected) = (r : Result Board ReadFault) → Reads bytes r → HasRead expected r
+Holds (refuses bytes fault) = (r : Result Board ReadFault) → Reads bytes r → r ≡ Err (BrokenBy fault)
+
 -- this order, and no refusal
 abbrev pub HasOrder : List ℕ → Result Order BoardFault → Type 0
 HasOrder expected (Ok order) = devices order ≡ expected
 HasOrder expected (Err fault) = ⊥
 
--- whatever answer the contract of `Board::read` allows is the expected one, and so is whatever that of `Board::check` does
-pub record ReadAs (bytes : List ℕ) (expected : Contents) : Type 0 where
-  pub read : (r : Result Board ReadFault) → Reads bytes r → HasRead expected r
-  pub checked : (r : Result Order BoardFault) → Checks bytes r → HasOrder expected.order r
-
-pub record RefusedAs (bytes : List ℕ) (fault : BoardFault) : Type 0 where
-  pub read : (r : Result Board ReadFault) → Reads bytes r → r ≡ Err (BrokenBy fault)
-  pub checked : (r : Result Order BoardFault) → Checks bytes r → r ≡ Err fault
-
-abbrev pub Holds : Case → Type 0
-Holds (reads bytes expected) = ReadAs bytes expected
-Holds (refuses bytes fault) = RefusedAs bytes fault
+-- whatever answer the contract of the check without memory allows is the expected one
+abbrev pub IsChecked : Case → Type 0
+IsChecked (reads bytes expected) = (r : Result Order BoardFault) → Checks bytes r → HasOrder expected.order r
+IsChecked (refuses bytes fault) = (r : Result Order BoardFault) → Checks bytes r → r ≡ Err fault
 
 abbrev pub cases : List Case
 cases =
@@ -101,4 +98,7 @@ abbrev pub boards : List (List ℕ)
 boards = map board_of cases
 
 abbrev pub AllHold : Type 0
-AllHold = All Holds cases
+AllHold = AllByRecursion Holds cases
+
+abbrev pub AllChecked : Type 0
+AllChecked = AllByRecursion IsChecked cases

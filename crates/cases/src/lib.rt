@@ -2,10 +2,10 @@
 #![tactic(auto)]
 
 ghost use Rattle.std.specs.Prelude.{◌≡◌, ◌<◌, ◌≤◌, [], length, MatchOption, slice_index_or};
-ghost use Rattle.cases.specs.Cases.{AllHold, cases, boards};
+ghost use Rattle.cases.specs.Cases.{AllHold, AllChecked, cases, boards};
 
 // clk, i2c and lcd: read with the order 0, 1, 2.
-const THREE_DEVICES: &[u8; 68] = b"\
+const THREE_DEVICES: [u8; 68] = *b"\
     clk\0\0\0\0\0\xff\0\0\0\xc3\xb2\xa1\x21\
     i2c\0\0\0\0\0\xff\0\0\0\x00\x00\x00\x00\
     lcd\0\0\0\0\0\x01\0\0\0\x00\x05\x00\x00\
@@ -13,7 +13,7 @@ const THREE_DEVICES: &[u8; 68] = b"\
     SLPB\x01\x01\x02\x00\x01\x00\0\0\x34\x00\x04\x00";
 
 // 0 is a consumer of 3, and 2 has the parent 0: read with the order 1, 3, 0, 2.
-const FOUR_DEVICES: &[u8; 84] = b"\
+const FOUR_DEVICES: [u8; 84] = *b"\
     a\0\0\0\0\0\0\0\xff\0\0\0\x00\x00\x00\x00\
     b\0\0\0\0\0\0\0\xff\0\0\0\x00\x00\x00\x00\
     c\0\0\0\0\0\0\0\x00\0\0\0\x00\x00\x00\x00\
@@ -22,7 +22,7 @@ const FOUR_DEVICES: &[u8; 84] = b"\
     SLPB\x01\x04\x00\x00\x01\x00\0\0\x44\x00\x04\x00";
 
 // 1 and 2 are consumers of each other, and 0 is one of 2: refused at device 0.
-const CIRCLE: &[u8; 76] = b"\
+const CIRCLE: [u8; 76] = *b"\
     a\0\0\0\0\0\0\0\xff\0\0\0\x00\x00\x00\x00\
     b\0\0\0\0\0\0\0\xff\0\0\0\x00\x00\x00\x00\
     c\0\0\0\0\0\0\0\xff\0\0\0\x00\x00\x00\x00\
@@ -36,9 +36,9 @@ fn board_file(case: usize) -> Option<&'static [u8]>
     ensures { MatchOption result (length cases ≤ «case») (λ bytes. («case» < length cases) × (bytes.now ≡ slice_index_or boards «case» [])) }
 {
     match case {
-        0 => Some(THREE_DEVICES),
-        1 => Some(FOUR_DEVICES),
-        2 => Some(CIRCLE),
+        0 => Some(&THREE_DEVICES),
+        1 => Some(&FOUR_DEVICES),
+        2 => Some(&CIRCLE),
         _ => None,
     }
 }
@@ -47,6 +47,7 @@ fn board_file(case: usize) -> Option<&'static [u8]>
 pub fn worked_board(case: usize) -> Option<&'static [u8]>
     ensures bytes { MatchOption result (length cases ≤ «case») (λ bytes. («case» < length cases) × (bytes.now ≡ slice_index_or boards «case» [])) }
     ensures hold { AllHold }
+    ensures checked { AllChecked }
 {
     board_file(case)
 }

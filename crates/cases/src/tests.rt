@@ -12,13 +12,13 @@ fn three_devices_are_read(rt: HostRuntime) -> Result<(), Fail> {
     let board = Board::read(rt.alloc(), file)?;
     let devices = board.devices();
     assert!(rt; devices.len() == 3);
-    assert!(rt; devices[0].name.as_bytes() == b"clk");
+    assert!(rt; devices[0].name.as_bytes() == b"clk".as_slice());
     assert!(rt; devices[0].word == 0x21a1_b2c3);
-    assert!(rt; devices[2].name.as_bytes() == b"lcd");
+    assert!(rt; devices[2].name.as_bytes() == b"lcd".as_slice());
     assert!(rt; devices[2].parent == Some(1));
     assert!(rt; board.links().len() == 1);
     assert!(rt; board.kinds().bus == 2);
-    assert!(rt; board.order().devices() == &[0, 1, 2]);
+    assert!(rt; board.order().devices() == [0, 1, 2].as_slice());
     Ok(())
 }
 
@@ -28,7 +28,7 @@ fn four_devices_are_ordered(rt: HostRuntime) -> Result<(), Fail> {
     let Ok(order) = Board::check(file) else {
         return Err(Fail::new("refused"));
     };
-    assert!(rt; order.devices() == &[1, 3, 0, 2]);
+    assert!(rt; order.devices() == [1, 3, 0, 2].as_slice());
     Ok(())
 }
 

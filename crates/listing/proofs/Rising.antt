@@ -1,10 +1,10 @@
 -- The superiors of a device by rising number, and just they.
-use Rattle.std.proofs.Common.{◌≡◌, ℕ, zero, suc, ◌+◌, ◌<◌, ◌≤◌, Bool, true, false, cond, ◌⊎◌, ◌↔◌, List, [], ◌∷◌, ◌++◌, length, get_or, filter, sym, refl, ◌∙◌, subst, inl, inr, add-one, arith}
+use Rattle.std.proofs.Common.{◌≡◌, ℕ, zero, suc, ◌+◌, ◌<◌, ◌≤◌, Bool, true, false, ◌⊎◌, ◌↔◌, List, [], ◌∷◌, ◌++◌, length, get_or, filter, sym, refl, ◌∙◌, subst, inl, inr, add-one, arith}
 use Rattle.std.specs.List.{range_with_len, ContainsAt as Has}
 use Rattle.std.proofs.ByRecursion.{has_get_or, has_push, has_push_cases, has_append_left}
 use Rattle.std.proofs.lemmas.List.{append-nil, length_push, get_or_push, get_or_append_left}
 use Rattle.std.proofs.lemmas.Bool.{cases_eq, cases_lt, true≢false}
-use Rattle.order.specs.Answers.{Superior, is_superior}
+use Rattle.order.specs.Answers.{is_superior}
 use Rattle.order.proofs.Tables.{is_superior_tests}
 use Rattle.board.specs.declared.board.Board.{Board}
 use Rattle.listing.specs.Lines.{ByNumber}

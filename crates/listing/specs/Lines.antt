@@ -1,5 +1,5 @@
 -- The lines that list a board's devices in their order.
-use Rattle.std.specs.Prelude.{◌≡◌, ℕ, ◌<◌, ◌↔◌, List, ◌++◌, length, vec_items, codes, slice_index, slice_index_or}
+use Rattle.std.specs.Prelude.{ℕ, ◌<◌, ◌↔◌, List, ◌++◌, length, vec_items, codes, slice_index, slice_index_or}
 use Rattle.std.specs.List.{flat_map, ContainsAt as Has}
 use Rattle.order.specs.Answers.{Superior, superiors_of, devices}
 use Rattle.board.specs.declared.board.Board.{Board}

@@ -1,6 +1,6 @@
 -- What is printed of a board file: the lines of its board, or the line of its refusal.
 use Rattle.std.specs.Prelude.{◌≡◌, ℕ, Bool, true, false, List, ◌++◌, string_bytes, codes}
-use Rattle.refusal.specs.Lines.{line as refusal-line}
+use Rattle.refusal.specs.Lines.{line as refusal_line}
 use Rattle.board.specs.declared.board.Board.{Board}
 use Rattle.boardfile.specs.declared.fault.BoardFault.{BoardFault}
 use Rattle.boardfile.specs.Faults.{Refused, Right, told}
@@ -14,7 +14,7 @@ OfBoard bs text = (board : Board) × Right bs × Says bs board × (text ≡ line
 
 -- the bytes break a rule, and the line tells which
 abbrev pub OfRefusal : List ℕ → List ℕ → Type 0
-OfRefusal bs text = (fault : BoardFault) × Refused bs fault × (text ≡ refusal-line (told fault) ++ codes "\n")
+OfRefusal bs text = (fault : BoardFault) × Refused bs fault × (text ≡ refusal_line (told fault) ++ codes "\n")
 
 abbrev pub PrintsAs : Bool → List ℕ → List ℕ → Type 0
 PrintsAs true bs text = OfBoard bs text

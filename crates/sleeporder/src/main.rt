@@ -3,8 +3,10 @@
 
 use listing::printing::Printout;
 use std::fs;
+use std::process::ExitCode;
 
 // Why the program ends with status 1.
+#[derive(Drop)]
 enum Ended {
     Refused,
     NoMemory,
@@ -19,8 +21,8 @@ fn bytes_of(rt: &HostRuntime, path: &str) -> Vec<u8> {
     }
 }
 
-fn main(rt: HostRuntime) -> Result<(), Ended> {
-    let bytes = bytes_of(&rt, "board.bin");
+fn print_order(rt: &HostRuntime) -> Result<(), Ended> {
+    let bytes = bytes_of(rt, "board.bin");
     let Ok(printout) = Printout::of_order(rt.alloc(), bytes.as_slice()) else {
         let _ = eprintln!(rt; "sleeporder: not enough memory");
         return Err(Ended::NoMemory);
@@ -32,5 +34,13 @@ fn main(rt: HostRuntime) -> Result<(), Ended> {
         Ok(())
     } else {
         Err(Ended::Refused)
+    }
+}
+
+// An error is told by the status alone: what there is to say has been printed.
+fn main(rt: HostRuntime) -> ExitCode {
+    match print_order(&rt) {
+        Ok(()) => ExitCode::SUCCESS,
+        Err(_) => ExitCode::FAILURE,
     }
 }

@@ -1,4 +1,4 @@
-use Rattle.std.proofs.Common.{◌≡◌, ◌<◌, get_or, arith}
+use Rattle.std.proofs.Common.{arith}
 use Rattle.listing.proofs.Appending.{byte_more, all_bytes}
 use Rattle.listing.proofs.lines.push_ascii.Goals as goal
 
