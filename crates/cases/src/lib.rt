@@ -43,7 +43,8 @@ fn board_file(case: usize) -> Option<&'static [u8]>
     }
 }
 
-// The board file of a worked case. That the cases hold is proved of every answer that the contract of the reader allows.
+// The board file of a worked case. That the cases hold is proved of every answer that the contract of the reader allows, and
+// of every answer that the contract of the check without memory allows.
 pub fn worked_board(case: usize) -> Option<&'static [u8]>
     ensures bytes { MatchOption result (length cases ≤ «case») (λ bytes. («case» < length cases) × (bytes.now ≡ slice_index_or boards «case» [])) }
     ensures hold { AllHold }

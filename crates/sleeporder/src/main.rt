@@ -21,6 +21,7 @@ fn bytes_of(rt: &HostRuntime, path: &str) -> Vec<u8> {
     }
 }
 
+// Prints what is to be printed of the board file, or the line of its refusal.
 fn print_order(rt: &HostRuntime) -> Result<(), Ended> {
     let bytes = bytes_of(rt, "board.bin");
     let Ok(printout) = Printout::of_order(rt.alloc(), bytes.as_slice()) else {
@@ -37,7 +38,7 @@ fn print_order(rt: &HostRuntime) -> Result<(), Ended> {
     }
 }
 
-// An error is told by the status alone: what there is to say has been printed.
+// Every error ends the program with status 1, and adds nothing to what has been printed.
 fn main(rt: HostRuntime) -> ExitCode {
     match print_order(&rt) {
         Ok(()) => ExitCode::SUCCESS,
