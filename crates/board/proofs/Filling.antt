@@ -1,7 +1,15 @@
--- A list that is filled from a function of the index.
-use Rattle.std.proofs.Common.{◌≡◌, ℕ, ◌+◌, List, [], ◌∷◌, ◌++◌, map, ◌∙◌, arith}
-use Rattle.std.specs.List.{range_with_len}
-use Rattle.std.proofs.lemmas.List.FromFn.{map-range_with_len_more}
+-- A list of what each record describes.
+use Rattle.std.proofs.Common.{◌≡◌, ℕ, suc, ◌+◌, ◌<◌, List, [], ◌∷◌, length, get_or, map, Some, Option, refl, ap, ◌∙◌, arith}
+use Rattle.std.specs.List.{range_with_len, filter_map}
 
-pub one_more : {X : Type 0} (f : ℕ → X) (items more : List X) (i : ℕ) (x : X) → items ≡ map f (range_with_len 0 i) → more ≡ items ++ x ∷ [] → x ≡ f i → more ≡ map f (range_with_len 0 (i + 1))
-one_more f items more i x so push is = push ∙ rw (so, is, map-range_with_len_more f 0 i i (omega arith))
+module _ {X : Type 0} (describe : List ℕ → Option X) (f : ℕ → X) where
+  from : (a : ℕ) (records : List (List ℕ)) → ((i : ℕ) → i < length records → describe (get_or records i []) ≡ Some (f (a + i))) → filter_map describe records ≡ map f (range_with_len a (length records))
+  from a [] each = refl
+  from a (x ∷ xs) each =
+      let here : describe x ≡ Some (f a) = each 0 (omega arith) ∙ ap (λ k. Some (f k)) (omega arith) in
+      let there = from (a + 1) xs (λ i l. each (suc i) (omega arith) ∙ ap (λ k. Some (f k)) (omega arith)) in
+      rw (here, there) refl
+
+  -- each record describes something
+  pub all_described : (records : List (List ℕ)) (n : ℕ) → length records ≡ n → ((i : ℕ) → i < n → describe (get_or records i []) ≡ Some (f i)) → filter_map describe records ≡ map f (range_with_len 0 n)
+  all_described records n long each = rw (← long) (from 0 records (λ i l. each i (omega arith) ∙ ap (λ k. Some (f k)) (omega arith)))

@@ -1,4 +1,7 @@
-pub mod Gathering
 pub mod Filling
-pub mod Wires
+pub mod Names
+pub mod Known
+pub mod Seen
+pub mod Firsts
+pub mod Gathering
 pub mod Exactness

@@ -1,3 +1,4 @@
+pub mod Records
 pub mod Wiring
 pub mod Checking
 pub mod Reading

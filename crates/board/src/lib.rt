@@ -2,5 +2,6 @@
 #![tactic(auto)]
 
 pub mod board;
+mod parts;
 mod records;
 mod wiring;

@@ -1,166 +1,119 @@
-// The records of a board file: which are right, and what they say.
-ghost use Rattle.std.specs.Prelude.{◌≡◌, ℕ, ◌+◌, ◌*◌, ◌<◌, ◌≤◌, length, Decides, MatchResult, ◌≢◌};
-ghost use Rattle.boardfile.specs.Layout.{four_bytes, device_place, link_place, name_field, device_count, link_count};
-ghost use Rattle.boardfile.specs.Rules.{Framed, RightDevice, RightDevices, RightLink, RightLinks};
-ghost use Rattle.boardfile.specs.Contents.{parent, device_of, link_of, link_in};
+// The records of a board file: which are right.
+ghost use Rattle.std.specs.Prelude.{◌≡◌, ℕ, ◌<◌, [], length, take, Decides, MatchOption, MatchResult, ◌≢◌, slice_index_or};
+ghost use Rattle.boardfile.specs.Layout.{device_count, link_count};
+ghost use Rattle.boardfile.specs.Rules.{RightDevice, RightDevices, RightLink, RightLinks, FirstWrong};
 ghost use Rattle.boardfile.specs.Faults.{Refused};
-ghost use Rattle.frame.specs.Frames.{FrameOf};
+ghost use Rattle.board.specs.Records.{IsParent};
 
-use boardfile::device::{Device, Link, Name};
+use crate::parts::{device_in, link_in};
+use boardfile::device::Link;
 use boardfile::fault::BoardFault;
 use frame::frame::Frame;
+use frame::limits::DeviceRecord;
 
-// A number of four bytes, the low byte first.
-fn four_bytes(bytes: &[u8], at: usize) -> u32
-    requires { at + 4 ≤ length bytes.now }
-    ensures { result ≡ four_bytes bytes.now at }
-{
-    u32::from_le_bytes([bytes[at], bytes[at + 1], bytes[at + 2], bytes[at + 3]])
+// A board file whose frame and records are right.
+#[derive(Clone, Copy)]
+pub(crate) struct Records<'a> {
+    pub(crate) frame: Frame<'a>,
+    ghost devices: { ∥ RightDevices frame.file.now ∥₁ },
+    ghost links: { ∥ RightLinks frame.file.now ∥₁ },
 }
 
-// Whether no device before `i` has its name.
-fn is_new(bytes: &[u8], frame: &Frame, i: u8) -> bool
-    requires framed { Framed bytes.now }
-    requires frame { FrameOf bytes.now frame.now }
-    requires inside { i < device_count bytes.now }
-    ensures { Decides result ((j : ℕ) → j < i → name_field bytes.now j ≢ name_field bytes.now i) }
+// The name that a device record has, with its padding.
+fn name_in(bytes: &DeviceRecord) -> &[u8]
+    ensures { result.now ≡ take 8 bytes.now }
 {
-    let at = frame.device_place(i);
-    let name = &bytes[at..at + 8];
-    for j in 0..i {
-        let earlier = frame.device_place(j);
-        if &bytes[earlier..earlier + 8] == name {
-            return false;
-        }
-    }
-    true
+    &bytes[..8]
 }
 
-// Whether device record `i` is right, the earlier ones being so.
-fn is_device(bytes: &[u8], frame: &Frame, i: u8) -> bool
-    requires framed { Framed bytes.now }
-    requires frame { FrameOf bytes.now frame.now }
-    requires inside { i < device_count bytes.now }
-    ensures { Decides result (RightDevice bytes.now i) }
+// Whether no earlier record has the same name.
+fn is_new(earlier: &[DeviceRecord], bytes: &DeviceRecord) -> bool
+    ensures { Decides result ((j : ℕ) → j < length earlier.now → take 8 (slice_index_or earlier.now j []) ≢ take 8 bytes.now) }
 {
-    let at = frame.device_place(i);
-    let parent = bytes[at + 8];
-    Name::parse(&bytes[at..at + 8]).is_some()
-        && is_new(bytes, frame, i)
-        && (parent == 255 || parent < frame.counts.devices && parent != i)
-        && bytes[at + 9] == 0
-        && bytes[at + 10] == 0
-        && bytes[at + 11] == 0
+    earlier.iter().all(|other| name_in(other) != name_in(bytes))
 }
 
-// Takes a link record apart: nothing, unless its last two bytes are zero.
-fn link_in(bytes: &[u8]) -> Option<Link>
-    requires { length bytes.now ≡ 4 }
-    ensures { result ≡ link_in bytes.now }
+// Whether this can be the parent of device `i` of `n`: none, or another.
+fn is_parent(parent: Option<u8>, n: usize, i: usize) -> bool
+    ensures { Decides result (IsParent n i parent) }
 {
-    let [consumer, supplier, rest @ ..] = bytes else {
-        return None;
+    parent.is_none_or(|parent| usize::from(parent) < n && usize::from(parent) != i)
+}
+
+// Whether there is a device record `i`, and it is right.
+fn is_device(frame: &Frame<'_>, i: usize) -> bool
+    ensures { Decides result ((i < device_count frame.now.file.now) × RightDevice frame.now.file.now i) }
+{
+    let records = frame.devices.records();
+    let Some(record) = records.get(i) else {
+        return false;
     };
-    if rest != b"\0\0".as_slice() {
-        return None;
-    }
-    Some(Link {
-        consumer: *consumer,
-        supplier: *supplier,
-    })
+    let Some(device) = device_in(record) else {
+        return false;
+    };
+    is_parent(device.parent, records.len(), i) && is_new(&records[..i], record)
 }
 
 // Whether link record `j` is right.
-fn is_link(bytes: &[u8], frame: &Frame, j: u16) -> bool
-    requires framed { Framed bytes.now }
-    requires frame { FrameOf bytes.now frame.now }
-    requires inside { j < link_count bytes.now }
-    ensures { Decides result (RightLink bytes.now j) }
+fn is_link(frame: &Frame<'_>, j: usize) -> bool
+    ensures { Decides result ((j < link_count frame.now.file.now) × RightLink frame.now.file.now j) }
 {
-    let at = frame.link_place(j);
-    let Some(Link { consumer, supplier }) = link_in(&bytes[at..at + 4]) else {
+    let Some(record) = frame.links.records().get(j) else {
         return false;
     };
-    let n = frame.counts.devices;
-    consumer < n && supplier < n && consumer != supplier
+    let n = frame.devices.records().len();
+    link_in(record).is_some_and(|Link { consumer, supplier }| {
+        usize::from(consumer) < n && usize::from(supplier) < n && consumer != supplier
+    })
+}
+
+// The first device record that is wrong.
+fn wrong_device(frame: &Frame<'_>) -> Option<usize>
+    ensures { MatchOption result (RightDevices frame.now.file.now) (λ i. FirstWrong (RightDevice frame.now.file.now) (device_count frame.now.file.now) i) }
+{
+    (0..frame.devices.records().len()).find(|i| !is_device(frame, *i))
+}
+
+// The first link record that is wrong.
+fn wrong_link(frame: &Frame<'_>) -> Option<usize>
+    ensures { MatchOption result (RightLinks frame.now.file.now) (λ j. FirstWrong (RightLink frame.now.file.now) (link_count frame.now.file.now) j) }
+{
+    (0..frame.links.records().len()).find(|j| !is_link(frame, *j))
 }
 
 // Refuses the first device record that is wrong.
-pub(crate) fn check_devices(bytes: &[u8], frame: &Frame) -> Result<(), BoardFault>
-    requires framed { Framed bytes.now }
-    requires frame { FrameOf bytes.now frame.now }
-    ensures { MatchResult result (λ _. RightDevices bytes.now) (Refused bytes.now) }
+fn check_devices(frame: &Frame<'_>) -> Result<(), BoardFault>
+    ensures { MatchResult result (λ _. RightDevices frame.now.file.now) (Refused frame.now.file.now) }
 {
-    for i in 0..frame.counts.devices {
-        if !is_device(bytes, frame, i) {
-            return Err(BoardFault::DeviceRecord {
-                at: frame.device_place(i) as u16,
-            });
-        }
-    }
-    Ok(())
-}
-
-// Refuses the first link record that is wrong.
-pub(crate) fn check_links(bytes: &[u8], frame: &Frame) -> Result<(), BoardFault>
-    requires framed { Framed bytes.now }
-    requires frame { FrameOf bytes.now frame.now }
-    requires devices { RightDevices bytes.now }
-    ensures { MatchResult result (λ _. RightLinks bytes.now) (Refused bytes.now) }
-{
-    for j in 0..frame.counts.links {
-        if !is_link(bytes, frame, j) {
-            return Err(BoardFault::LinkRecord {
-                at: frame.link_place(j) as u16,
-            });
-        }
-    }
-    Ok(())
-}
-
-// The parent that device record `i` names.
-pub(crate) fn parent_in(bytes: &[u8], frame: &Frame, i: u8) -> Option<u8>
-    requires framed { Framed bytes.now }
-    requires frame { FrameOf bytes.now frame.now }
-    requires inside { i < device_count bytes.now }
-    ensures { result ≡ parent bytes.now i }
-{
-    match bytes[frame.device_place(i) + 8] {
-        255 => None,
-        number => Some(number),
+    match wrong_device(frame) {
+        Some(i) => Err(BoardFault::DeviceRecord {
+            at: frame.devices.place(i as u16) as u16,
+        }),
+        None => Ok(()),
     }
 }
 
-// What device record `i` says.
-pub(crate) fn device_in(bytes: &[u8], frame: &Frame, i: u8) -> Device
-    requires framed { Framed bytes.now }
-    requires frame { FrameOf bytes.now frame.now }
-    requires devices { RightDevices bytes.now }
-    requires inside { i < device_count bytes.now }
-    ensures { result ≡ device_of bytes.now i }
+// Refuses the first link record that is wrong, where the device records are right.
+fn check_links(frame: &Frame<'_>) -> Result<(), BoardFault>
+    requires { RightDevices frame.now.file.now }
+    ensures { MatchResult result (λ _. RightLinks frame.now.file.now) (Refused frame.now.file.now) }
 {
-    let at = frame.device_place(i);
-    let Some(name) = Name::parse(&bytes[at..at + 8]) else {
-        return unreachable();
-    };
-    Device {
-        name,
-        parent: parent_in(bytes, frame, i),
-        word: four_bytes(bytes, at + 12),
+    match wrong_link(frame) {
+        Some(j) => Err(BoardFault::LinkRecord {
+            at: frame.links.place(j as u16) as u16,
+        }),
+        None => Ok(()),
     }
 }
 
-// What link record `j` says, which is right.
-pub(crate) fn link_of(bytes: &[u8], frame: &Frame, j: u16) -> Link
-    requires framed { Framed bytes.now }
-    requires frame { FrameOf bytes.now frame.now }
-    requires links { RightLinks bytes.now }
-    requires inside { j < link_count bytes.now }
-    ensures { result ≡ link_of bytes.now j }
-{
-    let at = frame.link_place(j);
-    match link_in(&bytes[at..at + 4]) {
-        Some(link) => link,
-        None => unreachable(),
+impl<'a> Records<'a> {
+    // The records of the bytes of a board file, or the first rule that they or the frame break.
+    pub(crate) fn read(file: &'a [u8]) -> Result<Records<'a>, BoardFault>
+        ensures { MatchResult result (λ records. records.frame.file.now ≡ file.now) (Refused file.now) }
+    {
+        let frame = Frame::read(file)?;
+        check_devices(&frame)?;
+        check_links(&frame)?;
+        Ok(Records { frame })
     }
 }

@@ -2,27 +2,44 @@
 // from the model, which is written in another language from the documents alone.
 #![tactic(auto)]
 
+ghost use Rattle.std.specs.Prelude.{length};
+ghost use Rattle.std.specs.Iterator.{at_most};
+
 use anyhow::anyhow;
 use board::board::Board;
-use boardfile::device::{Device, Name};
+use boardfile::device::Device;
 use boardfile::fault::ReadFault;
 use listing::lines::order_lines;
-use std::alloc::{AllocError, Global};
+use refusal::Refusal;
 use std::fs;
 
-// A name as text.
-fn text_of(heap: Global, name: &Name) -> Result<String, AllocError> {
-    let mut text = String::new(heap);
-    for b in name.as_bytes() {
-        text.push(char::from(*b))?;
+// What is left of the cases. Each is its length, as a number of two bytes, and then that many bytes.
+#[derive(Clone, Copy)]
+struct Cases<'a> {
+    rest: &'a [u8],
+}
+
+// The bytes of each case, up to one that is cut short.
+impl<'a> Iterator for Cases<'a> {
+    type Item = anyhow::Result<&'a [u8]>;
+
+    ghost remaining = { λ cases. at_most (length cases.rest.now) };
+
+    fn next(&mut self) -> Option<anyhow::Result<&'a [u8]>> {
+        let (size, rest) = self.rest.split_first_chunk::<2>()?;
+        let size = usize::from(u16::from_le_bytes(*size));
+        let Some((case, rest)) = rest.split_at_checked(size) else {
+            self.rest = &[];
+            return Some(Err(anyhow!("a case is cut short")));
+        };
+        self.rest = rest;
+        Some(Ok(case))
     }
-    Ok(text)
 }
 
 fn print_device(rt: &HostRuntime, device: &Device) -> anyhow::Result<()> {
-    let name = text_of(rt.alloc(), &device.name)?;
-    let word = device.word;
-    match device.parent {
+    let Device { name, parent, word } = *device;
+    match parent {
         Some(parent) => println!(rt; "device {name} {parent} {word}")?,
         None => println!(rt; "device {name} - {word}")?,
     }
@@ -40,7 +57,7 @@ fn print_board(rt: &HostRuntime, board: &Board) -> anyhow::Result<()> {
         println!(rt; "link {} {}", link.consumer, link.supplier)?;
     }
     let lines = order_lines(rt.alloc(), board)?;
-    for line in lines.as_str().lines() {
+    for line in lines.lines() {
         println!(rt; "order {line}")?;
     }
     Ok(())
@@ -50,31 +67,23 @@ fn print_case(rt: &HostRuntime, bytes: &[u8]) -> anyhow::Result<()> {
     match Board::read(rt.alloc(), bytes) {
         Ok(board) => print_board(rt, &board),
         Err(ReadFault::Board { fault }) => {
-            println!(rt; "{}", fault.refusal())?;
+            println!(rt; "{}", Refusal::from(fault))?;
             Ok(())
         }
         Err(ReadFault::Memory) => Err(anyhow!("no memory")),
     }
 }
 
-// Each case is its length, as a number of two bytes, and then that many bytes.
 fn print_cases(rt: &HostRuntime, all: &[u8]) -> anyhow::Result<()> {
-    let mut at = 0;
-    let mut number = 0u32;
-    while all.len() - at >= 2 {
-        let size = u16::from_le_bytes([all[at], all[at + 1]]) as usize;
-        if all.len() - at - 2 < size {
-            return Err(anyhow!("a case is cut short"));
-        }
+    for (number, case) in (Cases { rest: all }).enumerate() {
+        let case = case?;
         println!(rt; "# {number}")?;
-        print_case(rt, &all[at + 2..at + 2 + size])?;
-        at += 2 + size;
-        number = number.wrapping_add(1);
+        print_case(rt, case)?;
     }
     Ok(())
 }
 
 fn main(rt: HostRuntime) -> anyhow::Result<()> {
     let all = fs::read(&rt, "boards.bin")?;
-    print_cases(&rt, all.as_slice())
+    print_cases(&rt, &all)
 }

@@ -1,5 +1,5 @@
 -- The bytes are refused in one way, or not at all.
-use Rattle.std.proofs.Common.{◌≡◌, ℕ, zero, suc, ◌<◌, ◌⊎◌, List, sym, refl, ap, ◌∙◌, subst, inl, inr, arith, lit<}
+use Rattle.std.proofs.Common.{◌≡◌, ℕ, zero, suc, ◌<◌, List, sym, refl, ap, ◌∙◌, subst, inl, inr, arith, lit<}
 use Rattle.std.proofs.lemmas.Bool.{cases_order, cases_eq}
 use Rattle.order.specs.Orders.{Orderable, Circular}
 use Rattle.order.proofs.Exactness.{circular_same}
@@ -105,27 +105,18 @@ module _ (bs : List ℕ) where
 
   rule_below : (k : ℕ) → RulesBelow k → (j : ℕ) → j < k → Rule j
   rule_below zero all j l = absurd (omega arith)
-  rule_below (suc k) all j l = go (cases_eq j k) (rule_below k all.0 j)
-    where
-      go : (j ≡ k) ⊎ (j ≡ k → ⊥) → (j < k → Rule j) → Rule j
-      go (inl e) below = subst Rule (sym e) all.1
-      go (inr ne) below = below (omega arith)
+  rule_below (suc k) all j l = elim (cases_eq j k) [ inl e ↦ subst Rule (sym e) all.1 | inr ne ↦ rule_below k all.0 j (omega arith) ]
 
   same_rule : (j p k q : ℕ) → Breaks j p → Breaks k q → j ≡ k
-  same_rule j p k q a b = go (cases_order j k)
-    where
-      go : (j ≡ k) ⊎ ((j < k) ⊎ (k < j)) → j ≡ k
-      go (inl e) = e
-      go (inr (inl l)) = absurd (a.broken (rule_below k b.before j l))
-      go (inr (inr l)) = absurd (b.broken (rule_below j a.before k l))
+  same_rule j p k q a b =
+      elim (cases_order j k) [
+        | inl e ↦ e
+        | inr (inl l) ↦ absurd (a.broken (rule_below k b.before j l))
+        | inr (inr l) ↦ absurd (b.broken (rule_below j a.before k l))
+      ]
 
   first_same : (Good : ℕ → Type 0) (n i j : ℕ) → FirstWrong Good n i → FirstWrong Good n j → i ≡ j
-  first_same Good n i j a b = go (cases_order i j)
-    where
-      go : (i ≡ j) ⊎ ((i < j) ⊎ (j < i)) → i ≡ j
-      go (inl e) = e
-      go (inr (inl l)) = absurd (a.wrong (b.before i l))
-      go (inr (inr l)) = absurd (b.wrong (a.before j l))
+  first_same Good n i j a b = elim (cases_order i j) [ inl e ↦ e | inr (inl l) ↦ absurd (a.wrong (b.before i l)) | inr (inr l) ↦ absurd (b.wrong (a.before j l)) ]
 
   same_place : (k p q : ℕ) → Place k p → Place k q → p ≡ q
   same_place zero p q a b = a ∙ sym b

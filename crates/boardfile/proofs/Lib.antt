@@ -1,2 +1,3 @@
 pub mod Exclusion
 pub mod Naming
+pub mod Printing

@@ -14,18 +14,11 @@ use Rattle.boardfile.specs.Laws.{ShareNone, Laws}
 -- ---- spans
 
 apart_shares : (a k b l : ℕ) → Apart a k b l → ShareNone a k b l
-apart_shares a k b l (inl h) i j p q e = omega arith
-apart_shares a k b l (inr h) i j p q e = omega arith
+apart_shares a k b l h i j p q e = omega arith
 
 -- the byte where the later span begins is in the earlier one
 shares_apart : (a k b l : ℕ) → 0 < k → 0 < l → ShareNone a k b l → Apart a k b l
-shares_apart a k b l some more none = go (cases_lt b (a + k)) (cases_lt a (b + l)) (cases_lt a b)
-  where
-    go : (b < a + k) ⊎ (a + k ≤ b) → (a < b + l) ⊎ (b + l ≤ a) → (a < b) ⊎ (b ≤ a) → Apart a k b l
-    go (inr h) y z = inl h
-    go (inl h) (inr y) z = inr y
-    go (inl h) (inl y) (inl z) = absurd (none (b - a) 0 (omega arith) more (omega arith))
-    go (inl h) (inl y) (inr z) = absurd (none 0 (a - b) some (omega arith) (omega arith))
+shares_apart a k b l some more none = grind (arith, none (b - a) 0, none 0 (a - b))
 
 -- ---- names
 
@@ -34,15 +27,7 @@ size_bound field = prefix_len-le-length not_zero field
 
 -- a name begins with a byte that is not zero
 size_some : (field : List ℕ) → Named field → 1 ≤ name_size field
-size_some field named = go (cases_lt 0 (name_size field))
-  where
-    go : (0 < name_size field) ⊎ (name_size field ≤ 0) → 1 ≤ name_size field
-    go (inl h) = h
-    go (inr h) = absurd (empty (cases_lt 0 (length field)))
-      where
-        empty : (0 < length field) ⊎ (length field ≤ 0) → ⊥
-        empty (inl l) = omega (arith, named.padded 0 h l, named.letter.0)
-        empty (inr l) = omega (arith, get_or_past field 0 0 l, named.letter.0)
+size_some field named = grind (arith, named.padded 0, named.letter, get_or_past field 0 0)
 
 -- two fields of one length whose names are the same are the same
 shortened_same : (f g : List ℕ) → Named f → Named g → length f ≡ length g → shortened f ≡ shortened g → f ≡ g
@@ -52,11 +37,7 @@ shortened_same f g p q long e = ext_get_or 0 f g long same
     sizes = sym (length-take-le (name_size f) f (size_bound f)) ∙ ap length e ∙ length-take-le (name_size g) g (size_bound g)
 
     same : (i : ℕ) → i < length f → get_or f i 0 ≡ get_or g i 0
-    same i l = go (cases_lt i (name_size f))
-      where
-        go : (i < name_size f) ⊎ (name_size f ≤ i) → get_or f i 0 ≡ get_or g i 0
-        go (inl h) = sym (get_or-take (name_size f) f i 0 h) ∙ ap (λ (xs : List ℕ). get_or xs i 0) e ∙ get_or-take (name_size g) g i 0 (omega (arith, sizes))
-        go (inr h) = p.padded i h l ∙ sym (q.padded i (omega (arith, sizes)) (omega arith))
+    same i l = grind (arith, e, sizes, get_or-take (name_size f) f i 0, get_or-take (name_size g) g i 0, p.padded i, q.padded i)
 
 module _ (bs : List ℕ) (framed : Framed bs) (right : RightDevices bs) where
   field_long : (i : ℕ) → i < device_count bs → length (name_field bs i) ≡ 8
@@ -78,22 +59,14 @@ module _ (bs : List ℕ) (framed : Framed bs) (right : RightDevices bs) where
 -- ---- names are ASCII
 
 named_ascii : (field : List ℕ) → Named field → (k : ℕ) → get_or field k 0 < 128
-named_ascii field named k = go (cases_lt k (name_size field)) (cases_lt k (length field))
-  where
-    go : (k < name_size field) ⊎ (name_size field ≤ k) → (k < length field) ⊎ (length field ≤ k) → get_or field k 0 < 128
-    go (inl h) y = elim (named.plain k h) [ inl p ↦ omega (arith, p.1) | inr p ↦ omega (arith, p.1) ]
-    go (inr h) (inl l) = omega (arith, named.padded k h l)
-    go (inr h) (inr l) = omega (arith, get_or_past field k 0 l)
+named_ascii field named k = grind (arith, named.plain k, named.padded k, get_or_past field k 0)
 
 pub ascii_names : (bs : List ℕ) → RightDevices bs → (devices : List Device) → devices ≡ devices_of bs → AsciiNames devices
-ascii_names bs right devices is = rw is all
+ascii_names bs right devices is i k = rw is (go (cases_lt i (device_count bs)))
   where
-    all : AsciiNames (devices_of bs)
-    all i k = go (cases_lt i (device_count bs))
-      where
-        go : (i < device_count bs) ⊎ (device_count bs ≤ i) → get_or (get_or (devices_of bs) i blank).name.padded k 0 < 128
-        go (inl l) = rw (get_or-map-range_with_len (device_of bs) 0 (device_count bs) i i blank l (omega arith)) (named_ascii (name_field bs i) (right i l).named k)
-        go (inr l) = rw (get_or_past (devices_of bs) i blank (simp length-map-range_with_len l)) (lit< tt)
+    go : (i < device_count bs) ⊎ (device_count bs ≤ i) → get_or (get_or (devices_of bs) i blank).name.padded k 0 < 128
+    go (inl l) = rw (get_or-map-range_with_len (device_of bs) 0 (device_count bs) i i blank l (omega arith)) (named_ascii (name_field bs i) (right i l).named k)
+    go (inr l) = rw (get_or_past (devices_of bs) i blank (simp length-map-range_with_len l)) (lit< tt)
 
 pub laws : (bs : List ℕ) → Laws bs
 laws bs = record { apart = λ a k b l some more. (apart_shares a k b l, shares_apart a k b l some more); sizes = sizes bs; names = names bs }

@@ -1,7 +1,8 @@
 -- What the bytes of a board file say of its devices and links.
-use Rattle.std.specs.Prelude.{◌≡◌, ℕ, ◌<◌, cond, ◌&&◌, ◌⊎◌, List, [], map, length, Some, None, Option, ◌==◌, slice_index, slice_index_or}
+use Rattle.std.specs.Prelude.{◌≡◌, ℕ, ◌<◌, cond, ◌&&◌, ◌⊎◌, List, [], map, length, Some, None, Ok, Err, Option, Result, ◌==◌, slice_index, slice_index_or}
 use Rattle.std.specs.List.{range_with_len}
 use Rattle.boardfile.specs.declared.device.Name.{Name}
+use Rattle.boardfile.specs.declared.device.NotAName.{NotAName}
 use Rattle.boardfile.specs.declared.device.Device.{Device}
 use Rattle.boardfile.specs.declared.device.Link.{Link}
 use Rattle.boardfile.specs.declared.device.Kinds.{Kinds}
@@ -13,9 +14,9 @@ abbrev pub text : Name → List ℕ
 text name = shortened name.padded
 
 -- these bytes are a name with its padding, or they are none
-abbrev pub Parsed : List ℕ → Option Name → Type 0
-Parsed field None = (length field ≡ 8) × Named field → ⊥
-Parsed field (Some name) = (length field ≡ 8) × Named field × (name.padded ≡ field)
+abbrev pub Parsed : List ℕ → Result Name NotAName → Type 0
+Parsed field (Ok name) = (length field ≡ 8) × Named field × (name.padded ≡ field)
+Parsed field (Err _) = (length field ≡ 8) × Named field → ⊥
 
 -- what stands where no device does
 abbrev pub blank : Device

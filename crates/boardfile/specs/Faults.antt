@@ -1,6 +1,7 @@
 -- The refusals of a board file: for which bytes each comes, and what is told of it.
 use Rattle.std.specs.Prelude.{◌≡◌, ℕ, List}
 use Rattle.order.specs.Orders.{Orderable, Circular}
+use Rattle.refusal.specs.declared.layer.Layer.TheVariants.{File}
 use Rattle.refusal.specs.declared.refusal.Refusal.{Refusal}
 use Rattle.boardfile.specs.declared.fault.BoardFault.{BoardFault}
 use Rattle.boardfile.specs.declared.fault.BoardFault.TheVariants.{Size, Mark, Counts, Tables, DeviceRecord, LinkRecord, Circle}
@@ -8,15 +9,15 @@ use Rattle.boardfile.specs.Layout.{trailer, device_count, link_count, device_pla
 use Rattle.boardfile.specs.Rules.{Sized, Marked, Counted, Tabled, Framed, RightDevice, RightLink, RightDevices, RightLinks, FirstWrong}
 use Rattle.boardfile.specs.Contents.{SuperiorIn}
 
--- layer 3, the number and the place of each refusal
+-- the layer of files, the number and the place of each refusal
 abbrev pub told : BoardFault → Refusal
-told Size = record { layer = 3; number = 1; place = 0 }
-told (Mark at) = record { layer = 3; number = 2; place = at }
-told (Counts at) = record { layer = 3; number = 3; place = at }
-told (Tables at) = record { layer = 3; number = 4; place = at }
-told (DeviceRecord at) = record { layer = 3; number = 5; place = at }
-told (LinkRecord at) = record { layer = 3; number = 6; place = at }
-told (Circle device) = record { layer = 3; number = 7; place = device }
+told Size = record { layer = File; number = 1; place = 0 }
+told (Mark at) = record { layer = File; number = 2; place = at }
+told (Counts at) = record { layer = File; number = 3; place = at }
+told (Tables at) = record { layer = File; number = 4; place = at }
+told (DeviceRecord at) = record { layer = File; number = 5; place = at }
+told (LinkRecord at) = record { layer = File; number = 6; place = at }
+told (Circle device) = record { layer = File; number = 7; place = device }
 
 -- the bytes are refused so: the rules before this one hold, and it does not
 abbrev pub Refused : List ℕ → BoardFault → Type 0

@@ -1,11 +1,16 @@
 // The devices of a board and the links between them.
 mod names;
+mod printing;
 
 // The name of a device, as a board file has it: 8 bytes, of which those after the name are zero.
 #[derive(Clone, Copy, PartialEq, Eq, Debug)]
 pub struct Name {
     padded: [u8; 8],
 }
+
+// The bytes are not a name with its padding.
+#[derive(Clone, Copy, PartialEq, Eq, Debug)]
+pub struct NotAName;
 
 // A device: its parent is the number of another, and its word is what it holds while it runs.
 #[derive(Clone, Copy, PartialEq, Eq, Debug)]

@@ -5,7 +5,7 @@ ghost use Rattle.boardfile.specs.declared.fault.ReadFault.TheVariants.{Board, Me
 ghost use Rattle.boardfile.specs.Faults.{told};
 
 use order::ordering::Circle;
-use refusal::Refusal;
+use refusal::{Layer, Refusal};
 use std::alloc::{AllocError, AllocFailed};
 
 // The rule that a board file breaks. Places are counted from the start of the file.
@@ -36,12 +36,12 @@ pub enum ReadFault {
     Memory,
 }
 
-impl BoardFault {
-    // The layer, number and place of the refusal.
-    pub fn refusal(self) -> Refusal
-        ensures { result ≡ told self }
-    {
-        let (number, place) = match self {
+// The layer, number and place of the refusal.
+impl From<BoardFault> for Refusal {
+    ghost from_gives = { λ fault r. r ≡ told fault };
+
+    fn from(fault: BoardFault) -> Refusal {
+        let (number, place) = match fault {
             BoardFault::Size => (1, 0),
             BoardFault::Mark { at } => (2, at),
             BoardFault::Counts { at } => (3, at),
@@ -51,7 +51,7 @@ impl BoardFault {
             BoardFault::Circle { device } => (7, u16::from(device)),
         };
         Refusal {
-            layer: 3,
+            layer: Layer::File,
             number,
             place: u32::from(place),
         }

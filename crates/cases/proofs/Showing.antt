@@ -1,6 +1,5 @@
 -- A worked case holds where the tests pass and the rule for the order, executed, gives what is expected.
-use Rattle.std.proofs.Common.{◌≡◌, ℕ, zero, suc, ◌<◌, Bool, true, false, cond, ◌&&◌, ◌||◌, eqb, ltb, List, map, Some, None, Ok, Err, Decides, Option, Result, sym, refl, ap, subst, inl, inr, arith, MatchResult}
-use Rattle.std.proofs.lemmas.Bool.{true≢false, eqb-false}
+use Rattle.std.proofs.Common.{rules, ◌≡◌, ℕ, zero, suc, ◌<◌, Bool, true, false, cond, ◌&&◌, ◌||◌, eqb, ltb, List, map, Some, None, Ok, Err, Decides, Option, Result, refl, subst, inl, inr, arith, MatchResult}
 use Rattle.std.proofs.lemmas.Bool.Decides.{Decides-eqb, Decides-ltb, Decides-and, Decides-or, Decides-below_or, Decides-like}
 use Rattle.order.specs.declared.ordering.Order.{Order}
 use Rattle.order.specs.Orders.{IsTheOrder, Circular}
@@ -27,21 +26,18 @@ abbrev some_below : ℕ → (ℕ → Bool) → Bool
 some_below zero test = false
 some_below (suc n) test = test n || some_below n test
 
-clash : {A : Type 0} → ◌≡◌ {A = ℕ} 0 1 → A
-clash e = absurd (omega arith)
-
 abbrev is : Option ℕ → ℕ → Bool
 is None s = false
 is (Some p) s = eqb p s
 
 is_decides : (o : Option ℕ) (s : ℕ) → Decides (is o s) (o ≡ Some s)
-is_decides None s = ((λ (e : false ≡ true). absurd (true≢false (sym e))), (λ e. clash (cc)))
-is_decides (Some p) s = Decides-like (eqb p s) (ap Some) (λ e. cc) (Decides-eqb p s)
+is_decides None s = search rules
+is_decides (Some p) s = search rules
 
 -- a parent that is none of 255
 parent_is : (b s : ℕ) (t : Bool) → eqb b 255 ≡ t → cond t None (Some b) ≡ Some s → (b ≡ s) × (b ≡ 255 → ⊥)
-parent_is b s true q e = clash (cc)
-parent_is b s false q e = (cc, eqb-false b 255 q)
+parent_is b s true q e = search rules
+parent_is b s false q e = search rules
 
 module _ (bs : List ℕ) where
   abbrev pub superior : ℕ → ℕ → Bool

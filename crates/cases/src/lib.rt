@@ -31,17 +31,8 @@ const CIRCLE: [u8; 76] = *b"\
     \x00\x02\0\0\
     SLPB\x01\x03\x00\x00\x03\x00\0\0\x3c\x00\x0c\x00";
 
-// The board file of a worked case.
-fn board_file(case: usize) -> Option<&'static [u8]>
-    ensures { MatchOption result (length cases ≤ «case») (λ bytes. («case» < length cases) × (bytes.now ≡ slice_index_or boards «case» [])) }
-{
-    match case {
-        0 => Some(&THREE_DEVICES),
-        1 => Some(&FOUR_DEVICES),
-        2 => Some(&CIRCLE),
-        _ => None,
-    }
-}
+// The board file of each case.
+const BOARDS: [&[u8]; 3] = [&THREE_DEVICES, &FOUR_DEVICES, &CIRCLE];
 
 // The board file of a worked case. That the cases hold is proved of every answer that the contract of the reader allows, and
 // of every answer that the contract of the check without memory allows.
@@ -50,7 +41,7 @@ pub fn worked_board(case: usize) -> Option<&'static [u8]>
     ensures hold { AllHold }
     ensures checked { AllChecked }
 {
-    board_file(case)
+    BOARDS.get(case).copied()
 }
 
 #[cfg(test)]

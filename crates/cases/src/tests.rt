@@ -3,7 +3,7 @@ use crate::worked_board;
 use board::board::Board;
 use boardfile::fault::{BoardFault, ReadFault};
 use order::ordering::Circle;
-use order::superiors::Superiors;
+use order::superiors::{NoDevice, Superiors};
 use std::test::Fail;
 
 #[test]
@@ -25,9 +25,7 @@ fn three_devices_are_read(rt: HostRuntime) -> Result<(), Fail> {
 #[test]
 fn four_devices_are_ordered(rt: HostRuntime) -> Result<(), Fail> {
     let file = worked_board(1).ok_or("no such case")?;
-    let Ok(order) = Board::check(file) else {
-        return Err(Fail::new("refused"));
-    };
+    let order = Board::check(file)?;
     assert!(rt; order.devices() == [1, 3, 0, 2].as_slice());
     Ok(())
 }
@@ -35,13 +33,12 @@ fn four_devices_are_ordered(rt: HostRuntime) -> Result<(), Fail> {
 #[test]
 fn a_circle_is_refused(rt: HostRuntime) -> Result<(), Fail> {
     let file = worked_board(2).ok_or("no such case")?;
-    match Board::read(rt.alloc(), file) {
-        Err(ReadFault::Board { fault }) => {
-            assert_eq!(rt; fault, BoardFault::Circle { device: 0 });
-            Ok(())
-        },
-        _ => Err(Fail::new("not refused as a board")),
-    }
+    let fault = BoardFault::Circle { device: 0 };
+    assert_eq!(rt;
+        Board::read(rt.alloc(), file).err(),
+        Some(ReadFault::Board { fault })
+    );
+    Ok(())
 }
 
 #[test]
@@ -53,16 +50,12 @@ fn tables_have_1_to_64_devices(rt: HostRuntime) {
 
 #[test]
 fn the_longest_chain_is_turned_round(rt: HostRuntime) -> Result<(), Fail> {
-    let Some(mut table) = Superiors::new(64) else {
-        return Err(Fail::new("no table"));
-    };
+    let mut table = Superiors::new(64).ok_or("no table")?;
     for d in 0..63 {
-        assert!(rt; table.add(d + 1, d));
+        assert!(rt; table.add(d + 1, d).is_ok());
     }
-    assert!(rt; !table.add(64, 0));
-    let Ok(order) = table.order() else {
-        return Err(Fail::new("no order"));
-    };
+    assert_eq!(rt; table.add(64, 0), Err(NoDevice { number: 64 }));
+    let order = table.order().ok().ok_or("no order")?;
     assert!(rt; order.devices().len() == 64);
     assert!(rt; order.devices()[0] == 63);
     assert!(rt; order.devices()[63] == 0);
@@ -71,17 +64,10 @@ fn the_longest_chain_is_turned_round(rt: HostRuntime) -> Result<(), Fail> {
 
 #[test]
 fn the_device_below_a_circle_is_named(rt: HostRuntime) -> Result<(), Fail> {
-    let Some(mut table) = Superiors::new(5) else {
-        return Err(Fail::new("no table"));
-    };
-    assert!(rt; table.add(3, 4));
-    assert!(rt; table.add(4, 3));
-    assert!(rt; table.add(4, 1));
-    match table.order() {
-        Err(Circle { device }) => {
-            assert_eq!(rt; device, 1);
-            Ok(())
-        },
-        Ok(_) => Err(Fail::new("an order")),
-    }
+    let mut table = Superiors::new(5).ok_or("no table")?;
+    assert!(rt; table.add(3, 4).is_ok());
+    assert!(rt; table.add(4, 3).is_ok());
+    assert!(rt; table.add(4, 1).is_ok());
+    assert_eq!(rt; table.order().err(), Some(Circle { device: 1 }));
+    Ok(())
 }

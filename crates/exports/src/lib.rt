@@ -1,22 +1,30 @@
 // The library for callers in C and Rust, over numbers and slices of bytes. A slice goes as a pointer and a length.
 #![tactic(auto)]
 
-ghost use Rattle.std.specs.Prelude.{◌≤◌, length};
-ghost use Rattle.exports.specs.Exports.{Writes, OrderWritten, NumberOf, PlaceOf};
+ghost use Rattle.std.specs.Prelude.{◌≡◌, ◌≤◌, length};
+ghost use Rattle.exports.specs.Exports.{Writes, OrderWritten, NumberOf, PlaceOf, Tells};
 
 use board::board::Board;
+use refusal::Refusal;
 
-// Copies the devices to the front of `places` and answers how many they are; or answers 0, where there is too little room.
-fn write_devices(devices: &[u8], places: &mut [u8]) -> u8
+// Copies the devices to the front of `places` and answers how many they are; or none, where there is too little room.
+fn write_devices(devices: &[u8], places: &mut [u8]) -> Option<u8>
     requires { length devices.now ≤ 64 }
     ensures { Writes devices.now places.old places.new result }
 {
     let n = devices.len();
-    if n > places.len() {
-        return 0;
+    if places.len() < n {
+        return None;
     }
-    places[0..n].copy_from_slice(devices);
-    n as u8
+    places[..n].copy_from_slice(devices);
+    Some(n as u8)
+}
+
+// The refusal of a board file, or none where it is not refused.
+fn refusal_of(file: &[u8]) -> Option<Refusal>
+    ensures { Tells file.now result }
+{
+    Board::check(file).err().map(Refusal::from)
 }
 
 // Writes the order of the board that a board file describes to the front of `places`, and answers how many devices it has;
@@ -26,7 +34,7 @@ pub extern "C" fn fuldrik_board_order(file: &[u8], places: &mut [u8]) -> u8
     ensures { OrderWritten file.now places.old places.new result }
 {
     match Board::check(file) {
-        Ok(order) => write_devices(order.devices(), places),
+        Ok(order) => write_devices(order.devices(), places).unwrap_or(0),
         Err(_) => 0,
     }
 }
@@ -36,10 +44,7 @@ pub extern "C" fn fuldrik_board_order(file: &[u8], places: &mut [u8]) -> u8
 pub extern "C" fn fuldrik_refusal_number(file: &[u8]) -> u8
     ensures { NumberOf file.now result }
 {
-    match Board::check(file) {
-        Ok(_) => 0,
-        Err(fault) => fault.refusal().number,
-    }
+    refusal_of(file).map_or(0, |refusal| refusal.number)
 }
 
 // The place of the refusal of a board file, or 0 where it is not refused.
@@ -47,8 +52,5 @@ pub extern "C" fn fuldrik_refusal_number(file: &[u8]) -> u8
 pub extern "C" fn fuldrik_refusal_place(file: &[u8]) -> u32
     ensures { PlaceOf file.now result }
 {
-    match Board::check(file) {
-        Ok(_) => 0,
-        Err(fault) => fault.refusal().place,
-    }
+    refusal_of(file).map_or(0, |refusal| refusal.place)
 }

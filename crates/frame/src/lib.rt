@@ -2,4 +2,5 @@
 #![tactic(auto)]
 
 pub mod frame;
-mod limits;
+pub mod limits;
+pub mod table;

@@ -1,6 +1,6 @@
 -- The lines that list a board's devices in their order.
 use Rattle.std.specs.Prelude.{ℕ, ◌<◌, ◌↔◌, List, ◌++◌, length, vec_items, codes, slice_index, slice_index_or}
-use Rattle.std.specs.List.{flat_map, ContainsAt as Has}
+use Rattle.std.specs.List.{flat_map, Contains}
 use Rattle.order.specs.Answers.{Superior, superiors_of, devices}
 use Rattle.board.specs.declared.board.Board.{Board}
 use Rattle.boardfile.specs.Contents.{blank, text}
@@ -22,5 +22,5 @@ lines board = flat_map (line board) (devices board.order)
 
 -- the superiors of a device are listed by rising number, and just they
 pub record ByNumber (board : Board) (d : ℕ) : Type 0 where
-  pub just_they : (s : ℕ) → Has (superiors_of board.order.superiors d) s ↔ Superior board.order.superiors s d
+  pub just_they : (s : ℕ) → Contains (superiors_of board.order.superiors d) s ↔ Superior board.order.superiors s d
   pub rising : (i j : ℕ) → i < j → j < length (superiors_of board.order.superiors d) → slice_index (superiors_of board.order.superiors d) i < slice_index (superiors_of board.order.superiors d) j

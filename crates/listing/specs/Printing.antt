@@ -1,11 +1,13 @@
 -- What is printed of a board file: the lines of its board, or the line of its refusal.
-use Rattle.std.specs.Prelude.{◌≡◌, ℕ, Bool, true, false, List, ◌++◌, string_bytes, codes}
+use Rattle.std.specs.Prelude.{◌≡◌, ℕ, List, ◌++◌, Ok, Err, Result, String, string_bytes, codes}
+use Rattle.std.specs.declared.alloc.Global.{Global}
 use Rattle.refusal.specs.Lines.{line as refusal_line}
 use Rattle.board.specs.declared.board.Board.{Board}
 use Rattle.boardfile.specs.declared.fault.BoardFault.{BoardFault}
-use Rattle.boardfile.specs.Faults.{Refused, Right, told}
+use Rattle.boardfile.specs.Faults.{Refused as RefusedAs, Right, told}
 use Rattle.board.specs.Reading.{Says}
-use Rattle.listing.specs.declared.printing.Printout.{Printout}
+use Rattle.listing.specs.declared.printing.ListFault.{ListFault}
+use Rattle.listing.specs.declared.printing.ListFault.TheVariants.{Refused, Memory}
 use Rattle.listing.specs.Lines.{lines}
 
 -- the bytes keep all rules, and the lines are those of the board that they describe
@@ -14,11 +16,10 @@ OfBoard bs text = (board : Board) × Right bs × Says bs board × (text ≡ line
 
 -- the bytes break a rule, and the line tells which
 abbrev pub OfRefusal : List ℕ → List ℕ → Type 0
-OfRefusal bs text = (fault : BoardFault) × Refused bs fault × (text ≡ refusal_line (told fault) ++ codes "\n")
+OfRefusal bs text = (fault : BoardFault) × RefusedAs bs fault × (text ≡ refusal_line (told fault) ++ codes "\n")
 
-abbrev pub PrintsAs : Bool → List ℕ → List ℕ → Type 0
-PrintsAs true bs text = OfBoard bs text
-PrintsAs false bs text = OfRefusal bs text
-
-abbrev pub Prints : List ℕ → Printout → Type 0
-Prints bs printout = PrintsAs printout.accepted bs (string_bytes printout.text)
+-- the answer, by cases; nothing is said of want of memory
+abbrev pub Prints : List ℕ → Result (String Global) ListFault → Type 0
+Prints bs (Ok text) = OfBoard bs (string_bytes text)
+Prints bs (Err (Refused line)) = OfRefusal bs (string_bytes line)
+Prints bs (Err Memory) = Unit {0}

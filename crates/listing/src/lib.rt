@@ -3,3 +3,5 @@
 
 pub mod lines;
 pub mod printing;
+#[cfg(test)]
+mod tests;

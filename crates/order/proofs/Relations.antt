@@ -1,9 +1,11 @@
 -- Orders over any relation R whose both sides are below n.
-use Rattle.std.proofs.Common.{◌≡◌, ℕ, zero, suc, ◌<◌, ◌≤◌, ◌⊎◌, List, [], ◌∷◌, ◌++◌, length, get_or, sym, refl, ap, ◌∙◌, subst, inl, inr, arith}
+use Rattle.std.proofs.Common.{◌≡◌, ℕ, zero, suc, ◌<◌, ◌≤◌, eqb, ◌⊎◌, List, [], ◌∷◌, ◌++◌, length, get_or, sym, refl, ◌∙◌, subst, inl, inr, arith}
 use Rattle.std.proofs.lemmas.List.{ext_get_or, get_or_append_left, get_or_push, length_push}
-use Rattle.std.proofs.lemmas.Bool.{cases_lt, cases_order}
+use Rattle.std.proofs.lemmas.Bool.{cases_lt, cases_order, eq-eqb}
+use Rattle.std.proofs.lemmas.List.Folds.{list_any_at}
+use Rattle.std.proofs.lemmas.Map.Steps.{le-length_from_below}
 use Rattle.order.specs.Orders.{Placed, Before, Permutes, Precedes, Least, Ready, LeastFirst, Endless, Circular, IsTheOrder, Pinned, Inside, Once, SuperiorsEarlier, NoneLess}
-use Rattle.order.proofs.Finding.{by_less, choose, Injects, pigeon, covers}
+use Rattle.order.proofs.Finding.{by_less, Injects, pigeon, covers}
 
 -- ---- chains
 
@@ -100,33 +102,29 @@ module _ (n : ℕ) (R : ℕ → ℕ → Type 0) where
   pub least_grounded : (order : List ℕ) → LeastFirst n R order → Grounded R order (length order)
   least_grounded order least i l s r = (least i l).0.2 s r
 
-  pub least_injects : (order : List ℕ) → LeastFirst n R order → Injects (length order) n (λ i. get_or order i 0)
+  least_injects : (order : List ℕ) → LeastFirst n R order → Injects n order
   least_injects order least = record { inside = λ i l. (least i l).0.0; apart = λ i j h l e. (least j l).0.1 (i, h, e) }
 
   pub least_short : (order : List ℕ) → LeastFirst n R order → length order ≤ n
-  least_short order least = pigeon n (length order) (λ i. get_or order i 0) (least_injects order least)
+  least_short order least = pigeon (least_injects order least)
 
   -- with all devices placed it is as long as there are devices
   pub least_long : (order : List ℕ) → LeastFirst n R order → ((d : ℕ) → d < n → Placed order (length order) d) → length order ≡ n
   least_long order least all =
-      let f = choose n (λ d i. (i < length order) × (get_or order i 0 ≡ d)) (λ d l. let t = all d l in (t.0, (t.1, t.2))) in
-      let inj : Injects n (length order) f.0 = record { inside = λ d l. (f.1 d l).0; apart = λ d e h l q. apart d e f.0 h (f.1 d (omega arith)).1 (f.1 e l).1 q } in
-      omega (arith, pigeon (length order) n f.0 inj, least_short order least)
-    where
-      apart : (d e : ℕ) (f : ℕ → ℕ) → d < e → get_or order (f d) 0 ≡ d → get_or order (f e) 0 ≡ e → f d ≡ f e → ⊥
-      apart d e f h p q s = omega (arith, sym p ∙ ap (λ x. get_or order x 0) s ∙ q)
+      let covered = le-length_from_below order n (λ d l. let t = all d l in list_any_at (eqb d) order t.0 0 t.1 (eq-eqb d _ (sym t.2))) in
+      omega (arith, covered, least_short order least)
 
-  injects_permutes : (order : List ℕ) → length order ≡ n → Injects n n (λ i. get_or order i 0) → Permutes n order
+  injects_permutes : (order : List ℕ) → length order ≡ n → Injects n order → Permutes n order
   injects_permutes order long inj =
-      record { long = long; inside = inj.inside; place = covers n (λ i. get_or order i 0) inj; once = λ i j h k e. same i j h k e (cases_order i j) }
+      record { long = long; inside = λ i l. inj.inside i (omega arith); place = covers inj long; once = λ i j h k e. same i j h k e (cases_order i j) }
     where
       same : (i j : ℕ) → i < n → j < n → get_or order i 0 ≡ get_or order j 0 → (i ≡ j) ⊎ ((i < j) ⊎ (j < i)) → i ≡ j
       same i j h k e (inl q) = q
-      same i j h k e (inr (inl l)) = absurd (inj.apart i j l k e)
-      same i j h k e (inr (inr l)) = absurd (inj.apart j i l h (sym e))
+      same i j h k e (inr (inl l)) = absurd (inj.apart i j l (omega arith) e)
+      same i j h k e (inr (inr l)) = absurd (inj.apart j i l (omega arith) (sym e))
 
   pub least_permutes : (order : List ℕ) → length order ≡ n → LeastFirst n R order → Permutes n order
-  least_permutes order long least = injects_permutes order long (subst (λ k. Injects k n (λ i. get_or order i 0)) long (least_injects order least))
+  least_permutes order long least = injects_permutes order long (least_injects order least)
 
   precedes_grounded_place : (order : List ℕ) → Precedes n R order → (i j : ℕ) → i < n → j < n → R (get_or order i 0) (get_or order j 0) → i < j
   precedes_grounded_place order prec i j l k r =
@@ -185,7 +183,7 @@ module _ (n : ℕ) (R : ℕ → ℕ → Type 0) where
     kept_order order long inside once earlier none-less = (record { permutes = permutes; superiors_first = first }, least)
       where
         permutes : Permutes n order
-        permutes = injects_permutes order long (record { inside = inside; apart = λ i j h l e. once i j (h, l) e })
+        permutes = injects_permutes order long (record { inside = λ i l. inside i (omega arith); apart = λ i j h l e. once i j (h, omega arith) e })
 
         first : (s d : ℕ) → R s d → Before order s d
         first s d r =

@@ -1,7 +1,8 @@
 -- What the calls of this crate answer, over tables of superiors and orders.
-use Rattle.std.specs.Prelude.{◌≡◌, ℕ, ◌/◌, ◌%◌, ◌^◌, ◌<◌, ◌≤◌, Bool, true, false, ◌↔◌, List, take, is_ok, Some, None, Ok, Err, filter, Option, Result, ◌==◌, slice_index_or}
+use Rattle.std.specs.Prelude.{◌≡◌, ℕ, ◌/◌, ◌%◌, ◌^◌, ◌<◌, ◌≤◌, ◌⊎◌, Bool, true, ◌↔◌, List, take, is_ok, Some, None, Ok, Err, filter, Option, Result, ◌==◌, slice_index_or}
 use Rattle.std.specs.List.{range_with_len}
 use Rattle.order.specs.declared.superiors.Superiors.{Superiors}
+use Rattle.order.specs.declared.superiors.NoDevice.{NoDevice}
 use Rattle.order.specs.declared.ordering.Order.{Order}
 use Rattle.order.specs.declared.ordering.Circle.{Circle}
 use Rattle.order.specs.Orders.{IsTheOrder, Orderable, Circular, Pinned}
@@ -26,10 +27,11 @@ abbrev pub Made : ℕ → Option Superiors → Type 0
 Made count None = (1 ≤ count) × (count ≤ 64) → ⊥
 Made count (Some table) = (table.count ≡ count) × ((s d : ℕ) → Superior table s d → ⊥)
 
--- both are devices, and s is a superior of d from now on; or one is none, and nothing has changed
-abbrev pub Added : Superiors → Superiors → ℕ → ℕ → Bool → Type 0
-Added before after s d true = (s < before.count) × (d < before.count) × (after.count ≡ before.count) × Adds before.sets after.sets s d
-Added before after s d false = ((s < before.count) × (d < before.count) → ⊥) × (after ≡ before)
+-- both are devices, and s is a superior of d from now on; or one is none, nothing has changed, and its number is told
+abbrev pub Added : Superiors → Superiors → ℕ → ℕ → Result (Unit {0}) NoDevice → Type 0
+Added before after s d (Ok done) = (s < before.count) × (d < before.count) × (after.count ≡ before.count) × Adds before.sets after.sets s d
+Added before after s d (Err missing) =
+    ((s < before.count) × (d < before.count) → ⊥) × (after ≡ before) × (before.count ≤ missing.number) × ((missing.number ≡ s) ⊎ (missing.number ≡ d))
 
 -- the devices in their order
 abbrev pub devices : Order → List ℕ

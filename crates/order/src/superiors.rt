@@ -17,3 +17,9 @@ pub struct Superiors {
     ghost long: { length sets ≡ 64 },
     ghost known: { Known count sets },
 }
+
+// This number is no device of the table.
+#[derive(Clone, Copy, PartialEq, Eq, Debug)]
+pub struct NoDevice {
+    pub number: u8,
+}

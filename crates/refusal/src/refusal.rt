@@ -1,13 +1,14 @@
 ghost use Rattle.std.specs.Prelude.{Some};
 ghost use Rattle.refusal.specs.Lines.{line};
 
+use crate::layer::Layer;
 use std::fmt;
 
-// Who refused, under which number, and where. The layers are 1 for a bank of devices, 2 for the engine, 3 for files and
-// programs. What a place counts goes by the number: bytes from the start of a file, a device, or nothing.
+// Who refused, under which number, and where. What a place counts goes by the number: bytes from the start of a file, a
+// device, or nothing.
 #[derive(Clone, Copy, PartialEq, Eq, Debug)]
 pub struct Refusal {
-    pub layer: u8,
+    pub layer: Layer,
     pub number: u8,
     pub place: u32,
 }

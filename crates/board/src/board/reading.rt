@@ -1,50 +1,48 @@
 // From the bytes of a board file to the board, and what can be asked of it.
 ghost use Rattle.std.specs.Prelude.{◌≡◌, IfOk, vec_len};
 ghost use Rattle.boardfile.specs.Layout.{device_count};
-ghost use Rattle.boardfile.specs.Rules.{Framed, RightDevices, RightLinks};
 ghost use Rattle.boardfile.specs.Contents.{devices_of, links_of, AsciiNames};
-ghost use Rattle.frame.specs.Frames.{FrameOf};
 ghost use Rattle.boardfile.specs.Laws.{Laws};
 ghost use Rattle.board.specs.Reading.{Reads, Exact};
 
 use crate::board::Board;
-use crate::board::checking::{Checked, examine};
-use crate::records::{device_in, link_of};
+use crate::parts::{device_in, link_in};
+use crate::records::Records;
 use boardfile::device::{Device, Kinds, Link};
 use boardfile::fault::ReadFault;
-use frame::frame::Frame;
 use order::ordering::Order;
 use order::superiors::Superiors;
 use std::alloc::{AllocError, Global};
 
-// The devices that the records say.
-fn read_devices(heap: Global, bytes: &[u8], frame: &Frame) -> Result<Vec<Device>, AllocError>
-    requires framed { Framed bytes.now }
-    requires frame { FrameOf bytes.now frame.now }
-    requires devices { RightDevices bytes.now }
-    ensures { IfOk result (λ v. (v.items ≡ devices_of bytes.now) × (vec_len v ≡ device_count bytes.now) × AsciiNames v.items) }
-{
-    let n = frame.counts.devices;
-    let mut devices = Vec::with_capacity(heap, n as usize)?;
-    for i in 0..n {
-        devices.push(device_in(bytes, frame, i))?;
+impl Records<'_> {
+    // The devices that the records describe.
+    fn devices(&self, heap: Global) -> Result<Vec<Device>, AllocError>
+        ensures { IfOk result (λ v. (v.items ≡ devices_of self.now.frame.file.now) × (vec_len v ≡ device_count self.now.frame.file.now) × AsciiNames v.items) }
+    {
+        let records = self.frame.devices.records();
+        records.iter().filter_map(device_in).collect(heap)
     }
-    Ok(devices)
-}
 
-// The links that the records say.
-fn read_links(heap: Global, bytes: &[u8], frame: &Frame) -> Result<Vec<Link>, AllocError>
-    requires framed { Framed bytes.now }
-    requires frame { FrameOf bytes.now frame.now }
-    requires links { RightLinks bytes.now }
-    ensures { IfOk result (λ v. v.items ≡ links_of bytes.now) }
-{
-    let m = frame.counts.links;
-    let mut links = Vec::with_capacity(heap, m as usize)?;
-    for j in 0..m {
-        links.push(link_of(bytes, frame, j))?;
+    // The links that the records describe.
+    fn links(&self, heap: Global) -> Result<Vec<Link>, AllocError>
+        ensures { IfOk result (λ v. v.items ≡ links_of self.now.frame.file.now) }
+    {
+        let records = self.frame.links.records();
+        records.iter().filter_map(link_in).collect(heap)
     }
-    Ok(links)
+
+    // The board that the records describe, unless superiors run in a circle.
+    fn board(&self, heap: Global) -> Result<Board, ReadFault>
+        ensures { Reads self.now.frame.file.now result }
+    {
+        let order = self.order()?;
+        Ok(Board {
+            devices: self.devices(heap)?,
+            links: self.links(heap)?,
+            kinds: self.frame.kinds,
+            order,
+        })
+    }
 }
 
 impl Board {
@@ -61,15 +59,7 @@ impl Board {
     fn load(heap: Global, bytes: &[u8]) -> Result<Board, ReadFault>
         ensures { Reads bytes.now result }
     {
-        let Checked { frame, order } = examine(bytes)?;
-        let devices = read_devices(heap, bytes, &frame)?;
-        let links = read_links(heap, bytes, &frame)?;
-        Ok(Board {
-            devices,
-            links,
-            kinds: frame.counts.kinds,
-            order,
-        })
+        Records::read(bytes)?.board(heap)
     }
 
     // The devices by number.

@@ -1,58 +1,59 @@
-ghost use Rattle.std.specs.Prelude.{◌≡◌, ◌≤◌, length, Decides};
-ghost use Rattle.boardfile.specs.Rules.{Named, name_size};
+ghost use Rattle.std.specs.Prelude.{◌≡◌, ◌≤◌, ◌⊎◌, length, All, Decides};
+ghost use Rattle.boardfile.specs.Rules.{Letter, Digit, Named, name_size};
 ghost use Rattle.boardfile.specs.Contents.{text, Parsed};
 
-use crate::device::Name;
+use crate::device::{Name, NotAName};
 
 // How many bytes stand before the first zero byte, or in all.
 fn name_size(field: &[u8]) -> usize
     ensures size { result ≡ name_size field.now }
     ensures bound { result ≤ length field.now }
 {
-    for (i, b) in field.iter().enumerate() {
-        if *b == 0 {
-            return i;
-        }
-    }
-    field.len()
+    field.iter().take_while(|b| **b != 0).count()
+}
+
+// Whether all of these bytes are letters a to z and digits.
+fn is_plain(name: &[u8]) -> bool
+    ensures { Decides result (All (λ b. Letter b ⊎ Digit b) name.now) }
+{
+    name.iter()
+        .all(|b| b.is_ascii_lowercase() || b.is_ascii_digit())
+}
+
+// Whether all of these bytes are zero.
+fn is_padding(bytes: &[u8]) -> bool
+    ensures { Decides result (All (λ b. b ≡ 0) bytes.now) }
+{
+    bytes.iter().all(|b| *b == 0)
 }
 
 // Whether this is a name, padded with zero bytes.
 fn is_name(field: &[u8]) -> bool
-    requires { 1 ≤ length field.now }
     ensures { Decides result (Named field.now) }
 {
-    let size = name_size(field);
-    for (k, b) in field.iter().enumerate() {
-        if k < size {
-            if !(b.is_ascii_lowercase() || b.is_ascii_digit()) {
-                return false;
-            }
-        } else if *b != 0 {
-            return false;
+    let (name, padding) = field.split_at(name_size(field));
+    field.first().is_some_and(|b| b.is_ascii_lowercase()) && is_plain(name) && is_padding(padding)
+}
+
+// The name in 8 bytes.
+impl TryFrom<&[u8]> for Name {
+    type Error = NotAName;
+
+    ghost try_from_gives = { λ field r. Parsed field.now r };
+
+    fn try_from(field: &[u8]) -> Result<Name, NotAName> {
+        match field.as_array() {
+            Some(padded) if is_name(field) => Ok(Name { padded: *padded }),
+            _ => Err(NotAName),
         }
     }
-    field[0].is_ascii_lowercase()
 }
 
 impl Name {
-    // The name in these 8 bytes; or none, if they are not a name with its padding.
-    pub fn parse(field: &[u8]) -> Option<Name>
-        ensures { Parsed field.now result }
-    {
-        if field.len() != 8 || !is_name(field) {
-            return None;
-        }
-        let mut padded = [0; 8];
-        padded.copy_from_slice(field);
-        Some(Name { padded })
-    }
-
     // The name without its padding.
     pub fn as_bytes(&self) -> &[u8]
         ensures { result.now ≡ text self.now }
     {
-        let field: &[u8] = &self.padded;
-        &field[0..name_size(field)]
+        &self.padded[..name_size(&self.padded)]
     }
 }

@@ -1,5 +1,8 @@
 use Rattle.cases.proofs.Proved.{all_hold, all_checked}
 use Rattle.cases.proofs.worked_board.Goals as goal
 
-pub returns : goal.returns
-returns c = record { bytes = c.board_file.ensures; hold = all_hold; checked = all_checked }
+pub returns-clause-hold : goal.returns-clause-hold
+returns-clause-hold c = all_hold
+
+pub returns-clause-checked : goal.returns-clause-checked
+returns-clause-checked c = all_checked

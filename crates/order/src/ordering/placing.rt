@@ -1,6 +1,5 @@
 // How the order is found, and how it is read.
-ghost use Rattle.std.specs.Prelude.{◌≡◌, ◌+◌, ◌<◌, slice_set};
-ghost use Rattle.order.specs.Sets.{With};
+ghost use Rattle.std.specs.Prelude.{◌≡◌};
 ghost use Rattle.order.specs.Orders.{IsTheOrder};
 ghost use Rattle.order.specs.Answers.{Superior, devices, Answers, Exact};
 
@@ -8,48 +7,26 @@ use crate::ordering::{Circle, Order};
 use crate::set::DeviceSet;
 use crate::superiors::Superiors;
 
-// The places taken so far, and which devices have one.
-#[derive(Clone, Copy)]
-struct Row {
-    places: [u8; 64],
-    taken: usize,
-    placed: DeviceSet,
-}
-
-impl Row {
-    // Gives the next place to a device.
-    fn append(&mut self, device: u8)
-        requires room { self.old.taken < 64 }
-        requires device { device < 64 }
-        ensures places { self.new.places ≡ slice_set self.old.places self.old.taken device }
-        ensures taken { self.new.taken ≡ self.old.taken + 1 }
-        ensures placed { With self.old.placed self.new.placed device }
-    {
-        self.places[self.taken] = device;
-        self.taken += 1;
-        self.placed = self.placed.with(device);
-    }
-}
-
 impl Superiors {
     // The order of the table's devices, or why there is none.
     pub fn order(self) -> Result<Order, Circle>
         ensures answers { Answers self result }
         ensures exact { Exact self result }
     {
-        let mut row = Row {
-            places: [0; 64],
-            taken: 0,
-            placed: DeviceSet::empty(),
-        };
-        while let Some(device) = self.next(row.placed) {
-            row.append(device);
+        let mut places = [0; 64];
+        let mut placed = DeviceSet::empty();
+        for place in &mut places {
+            let Some(device) = self.next(placed) else {
+                break;
+            };
+            *place = device;
+            placed = placed.with(device);
         }
-        match self.least_absent(row.placed) {
+        match self.least_absent(placed) {
             Some(device) => Err(Circle { device }),
             None => Ok(Order {
                 superiors: self,
-                places: row.places,
+                places,
             }),
         }
     }
@@ -60,7 +37,7 @@ impl Order {
     fn taken(&self) -> &[u8]
         ensures { result.now ≡ devices self.now }
     {
-        &self.places[0..self.superiors.count() as usize]
+        &self.places[..usize::from(self.superiors.count())]
     }
 
     // The devices, the first in the order first. Whoever has an order has each device of its table once, each superior

@@ -1,20 +1,11 @@
 // The calls on a table of superiors.
-ghost use Rattle.std.specs.Prelude.{◌≡◌, ◌≤◌, Some, Decides};
+ghost use Rattle.std.specs.Prelude.{◌≡◌, ◌<◌, ◌≤◌, Decides, MatchResult};
 ghost use Rattle.order.specs.Answers.{Superior, Made, Added};
 
 use crate::set::DeviceSet;
-use crate::superiors::Superiors;
+use crate::superiors::{NoDevice, Superiors};
 
 impl Superiors {
-    // Devices without superiors.
-    fn bare(count: u8) -> Superiors
-        requires { (1 ≤ count) × (count ≤ 64) }
-        ensures { Made count (Some result) }
-    {
-        let sets = [DeviceSet::empty(); 64];
-        Superiors { count, sets }
-    }
-
     // `count` devices, none of them with a superior yet; or nothing, unless there are 1 to 64.
     pub fn new(count: u8) -> Option<Superiors>
         ensures { Made count result }
@@ -22,7 +13,8 @@ impl Superiors {
         if count == 0 || count > 64 {
             return None;
         }
-        Some(Superiors::bare(count))
+        let sets = [DeviceSet::empty(); 64];
+        Some(Superiors { count, sets })
     }
 
     pub fn count(&self) -> u8
@@ -31,16 +23,26 @@ impl Superiors {
         self.count
     }
 
-    // Makes one device a superior of another, which it may be already; or answers false, where either is no device.
-    pub fn add(&mut self, superior: u8, dependent: u8) -> bool
+    // The device of this number.
+    fn device(&self, number: u8) -> Result<u8, NoDevice>
+        ensures { MatchResult result (λ device. (device ≡ number) × (number < self.now.count)) (λ missing. (missing.number ≡ number) × (self.now.count ≤ number)) }
+    {
+        if number < self.count {
+            Ok(number)
+        } else {
+            Err(NoDevice { number })
+        }
+    }
+
+    // Makes one device a superior of another, which it may be already; or tells which number is no device.
+    pub fn add(&mut self, superior: u8, dependent: u8) -> Result<(), NoDevice>
         ensures { Added self.old self.new superior dependent result }
     {
-        if superior >= self.count || dependent >= self.count {
-            return false;
-        }
-        let d = dependent as usize;
-        self.sets[d] = self.sets[d].with(superior);
-        true
+        let superior = self.device(superior)?;
+        let dependent = self.device(dependent)?;
+        let set = &mut self.sets[usize::from(dependent)];
+        *set = set.with(superior);
+        Ok(())
     }
 
     // Whether one device is a superior of another.
@@ -49,6 +51,6 @@ impl Superiors {
     {
         superior < self.count
             && dependent < self.count
-            && self.sets[dependent as usize].has(superior)
+            && self.sets[usize::from(dependent)].has(superior)
     }
 }

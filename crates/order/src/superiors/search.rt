@@ -13,23 +13,15 @@ impl Superiors {
     pub(crate) fn next(&self, placed: DeviceSet) -> Option<u8>
         ensures { MatchOption result ((d : ℕ) → d < self.now.count → In placed d ⊎ Held self.now.sets placed d) (λ d. Least (Free self.now.count self.now.sets placed) d) }
     {
-        for device in 0..self.count {
-            if !placed.has(device) && self.sets[device as usize].within(placed) {
-                return Some(device);
-            }
-        }
-        None
+        (0..self.count).find(|device| {
+            !placed.has(*device) && self.sets[usize::from(*device)].within(placed)
+        })
     }
 
     // The least device that is not placed.
     pub(crate) fn least_absent(&self, placed: DeviceSet) -> Option<u8>
         ensures { MatchOption result ((d : ℕ) → d < self.now.count → In placed d) (λ d. (d < self.now.count) × (In placed d → ⊥) × ((e : ℕ) → e < d → In placed e)) }
     {
-        for d in 0..self.count {
-            if !placed.has(d) {
-                return Some(d);
-            }
-        }
-        None
+        (0..self.count).find(|device| !placed.has(*device))
     }
 }

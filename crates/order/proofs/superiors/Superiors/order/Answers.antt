@@ -1,36 +1,32 @@
-use Rattle.std.proofs.Common.{Ok, Err, refl, arith}
+use Rattle.std.proofs.Common.{◌≡◌, Ok, Err, refl, ◌∙◌, arith, ℕ, ◌<◌, ◌⊎◌}
+use Rattle.std.proofs.lemmas.List.{set-get_or}
+use Rattle.order.specs.Sets.{In}
+use Rattle.order.specs.Tables.{Above, Held}
 use Rattle.order.proofs.Relations.{order_kept}
-use Rattle.order.proofs.Placing.{runs_room, runs_append, runs_all, runs_stuck}
+use Rattle.order.proofs.Placing.{runs_more, runs_all, runs_stuck, runs_full}
 use Rattle.order.proofs.Exactness.{exact}
-use Rattle.order.specs.Tables.{Above}
 use Rattle.order.proofs.superiors.Superiors.order.Goals as goal
+use Rattle.order.proofs.superiors.Superiors.order.Goals.{else-loop-place-test, then-loop-place-test+in_default}
 
-pub append-requires : goal.append-requires
-append-requires c =
-    let next = c.in-Some.ensures in
-    let room = runs_room c.args.self c.loop-device.row c.loop-device.invariant c.in-Some.device next in
-    record { room = omega (arith, room, c.args.self.few); device = omega (arith, next.0.0, c.args.self.few) }
-
-pub loop-device-smaller : goal.loop-device-smaller
-loop-device-smaller c =
-    let room = runs_room c.args.self c.loop-device.row c.loop-device.invariant c.in-Some.device c.in-Some.ensures in
-    omega (arith, room, c.append.ensures.taken)
-
-pub loop-device-preserved : goal.loop-device-preserved
-loop-device-preserved c =
-    runs_append c.args.self c.loop-device.row c.loop-device.invariant c.in-Some.device c.in-Some.ensures
-    c.append.new.self c.append.ensures.places c.append.ensures.taken c.append.ensures.placed
+pub loop-place-preserved : goal.loop-place-preserved
+loop-place-preserved c = runs_more c.loop-place.invariant c.in-Some.ensures c.with-placed.ensures
 
 pub invariant_of-result : goal.invariant_of-result
 invariant_of-result c =
     let table = c.args.self in
-    let kept = order_kept table.count (Above table.sets) table.known _ (runs_all table c.loop-device.row c.loop-device.invariant c.in-None.ensures) in
-    record { long = c.loop-device.invariant.long; inside = kept.0; once = kept.1; earlier = kept.2; least = kept.3 }
+    let runs = c.loop-place.invariant in
+    let same : c.loop-place-test.places ≡ c.loop-place.place-items =
+    elim c.loop-place-test.branch [ else-loop-place-test w ↦ w.places-is | then-loop-place-test+in_default w ↦ w.places-is ∙ set-get_or _ _ _ ] in
+    let kept = order_kept table.count (Above table.sets) table.known _ (runs_all runs c.in-None.ensures) in
+    rw same (record { long = runs.long; inside = kept.0; once = kept.1; earlier = kept.2; least = kept.3 })
 
 pub returns-in-Some-least_absent : goal.returns-in-Some-least_absent
 returns-in-Some-least_absent c =
+    let runs = c.loop-place.invariant in
     let left = c.in-Some-least_absent.ensures in
-    let circular = runs_stuck c.args.self c.loop-device.row c.loop-device.invariant c.in_default.ensures c.in-Some-least_absent.device left.0 left.1 left.2 in
+    let held : (d : ℕ) → d < c.args.self.count → In c.loop-place.placed d ⊎ Held c.args.self.sets c.loop-place.placed d =
+    elim c.loop-place-test.branch [ else-loop-place-test w ↦ runs_full runs (omega arith) | then-loop-place-test+in_default w ↦ w.in_default.ensures ] in
+    let circular = runs_stuck runs held c.in-Some-least_absent.device left.0 left.1 left.2 in
     record { answers = circular; exact = exact c.args.self (Err (record { device = c.in-Some-least_absent.device })) circular }
 
 pub returns-in-None : goal.returns-in-None
