@@ -62,7 +62,7 @@ def same_name_cases():
             ("length, falling", (b"abcdefgh", b"abcdefg", b"abcd", b"a")),
             ("order of bytes", (b"ab", b"ba", b"a1b", b"ab1"))):
         yield read("names that differ only in the " + what, draft_of(*names).data())
-    for earlier, later in ((0, 63), (31, 32)):
+    for earlier, later in ((0, 63), (31, 32), (32, 63), (62, 63)):
         devices = plain_devices(64)
         devices[later] = devices[earlier]
         draft = Draft(devices, ())

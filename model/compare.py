@@ -1,5 +1,5 @@
 """`python3 compare.py PROGRAM [COUNT]`: runs the built `sleeporder` over the test boards and over COUNT more that are made
-by chance (1,000 if none is given), each in a folder of its own, and holds what it prints and its status to the model's."""
+by chance (1,000 if none is given), and holds what it prints, its status and its empty standard error to the model's."""
 
 import os
 import subprocess
@@ -24,10 +24,15 @@ def chance_boards(count):
         yield data
 
 
-def ran(program, folder):
-    """What the program prints in that folder, and its status."""
-    run = subprocess.run([program], cwd=folder, stdout=subprocess.PIPE, check=False)
-    return run.stdout.decode("ascii"), run.returncode
+def differs(program, folder, data):
+    """Whether the program, in that folder, does something else than the model does with these bytes. One that does not end
+    within ten seconds does."""
+    text, status = sleeporder.answer(data)
+    try:
+        run = subprocess.run([program], cwd=folder, stdin=subprocess.DEVNULL, capture_output=True, timeout=10, check=False)
+    except subprocess.TimeoutExpired:
+        return True
+    return (run.stdout, run.stderr, run.returncode) != (text.encode("ascii"), b"", status)
 
 
 def differences(program, count):
@@ -35,24 +40,31 @@ def differences(program, count):
     runs, different = 0, []
     with tempfile.TemporaryDirectory() as folder:
         path = os.path.join(folder, "board.bin")
-        if ran(program, folder) != sleeporder.answer(b""):
+        if differs(program, folder, b""):
             different.append("no file")
         for data in [case.data for case in boards.CASES] + list(chance_boards(count)):
             with open(path, "wb") as file:
                 file.write(data)
-            if ran(program, folder) != sleeporder.answer(data):
+            if differs(program, folder, data):
                 different.append(data.hex())
             runs += 1
         os.remove(path)
         os.mkdir(path)
-        if ran(program, folder) != sleeporder.answer(b""):
+        if differs(program, folder, b""):
             different.append("a folder")
-    return runs + 2, different
+        os.rmdir(path)
+        os.symlink("/dev/zero", path)
+        if differs(program, folder, sleeporder.bytes_of(path)):
+            different.append("a file without an end")
+    return runs + 3, different
 
 
 def main(arguments):
-    if not 1 <= len(arguments) <= 2:
+    if not 1 <= len(arguments) <= 2 or not all(count.isdigit() for count in arguments[1:]):
         sys.stderr.write("usage: python3 compare.py PROGRAM [COUNT]\n")
+        return 2
+    if not os.access(arguments[0], os.X_OK):
+        sys.stderr.write("%s is no program; `rt run` in crates/sleeporder builds one, out/sleeporder\n" % arguments[0])
         return 2
     count = int(arguments[1]) if len(arguments) == 2 else 1000
     runs, different = differences(os.path.abspath(arguments[0]), count)

@@ -1,6 +1,8 @@
 -- What is read of a trailer.
 use Rattle.std.specs.Prelude.{◌≡◌, ℕ, ◌-◌, ◌*◌, ◌<◌, ◌≤◌, List}
-use Rattle.boardfile.specs.Rules.{Apart}
+use Rattle.boardfile.specs.declared.fault.BoardFault.{BoardFault}
+use Rattle.boardfile.specs.Rules.{Apart, Framed}
+use Rattle.boardfile.specs.Faults.{Refused}
 use Rattle.boardfile.specs.Layout.{device_count, link_count}
 use Rattle.boardfile.specs.Contents.{kinds_of}
 use Rattle.frame.specs.declared.frame.reading.Counts.{Counts}
@@ -26,3 +28,7 @@ pub record FrameOf (bs : List ℕ) (frame : Frame) : Type 0 where
   pub kinds : frame.kinds ≡ kinds_of bs
   pub devices : DevicesOf bs frame.devices.start frame.devices.records.now
   pub links : LinksOf bs frame.links.start frame.links.records.now
+
+-- the bytes are refused so, and for their trailer
+abbrev pub Unframed : List ℕ → BoardFault → Type 0
+Unframed bs fault = Refused bs fault × (Framed bs → ⊥)

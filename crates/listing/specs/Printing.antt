@@ -1,9 +1,11 @@
 -- What is printed of a board file: the lines of its board, or the line of its refusal.
-use Rattle.std.specs.Prelude.{◌≡◌, ℕ, List, ◌++◌, Ok, Err, Result, String, string_bytes, codes}
+use Rattle.std.specs.Prelude.{◌≡◌, ℕ, List, Ok, Err, Result, String, string_bytes}
 use Rattle.std.specs.declared.alloc.Global.{Global}
-use Rattle.refusal.specs.Lines.{line as refusal_line}
+use Rattle.refusal.specs.declared.refusal.Refusal.{Refusal}
 use Rattle.board.specs.declared.board.Board.{Board}
 use Rattle.boardfile.specs.declared.fault.BoardFault.{BoardFault}
+use Rattle.boardfile.specs.declared.fault.ReadFault.{ReadFault}
+use Rattle.boardfile.specs.declared.fault.ReadFault.TheVariants.{Board as BrokenBy, Memory as NoMemory}
 use Rattle.boardfile.specs.Faults.{Refused as RefusedAs, Right, told}
 use Rattle.board.specs.Reading.{Says}
 use Rattle.listing.specs.declared.printing.ListFault.{ListFault}
@@ -14,12 +16,17 @@ use Rattle.listing.specs.Lines.{lines}
 abbrev pub OfBoard : List ℕ → List ℕ → Type 0
 OfBoard bs text = (board : Board) × Right bs × Says bs board × (text ≡ lines board)
 
--- the bytes break a rule, and the line tells which
-abbrev pub OfRefusal : List ℕ → List ℕ → Type 0
-OfRefusal bs text = (fault : BoardFault) × RefusedAs bs fault × (text ≡ refusal_line (told fault) ++ codes "\n")
+-- the bytes break a rule, and the refusal tells which
+abbrev pub OfRefusal : List ℕ → Refusal → Type 0
+OfRefusal bs refusal = (fault : BoardFault) × RefusedAs bs fault × (refusal ≡ told fault)
 
--- the answer, by cases; nothing is said of want of memory
+-- the answer, by cases; want of memory comes only where the bytes keep all rules
 abbrev pub Prints : List ℕ → Result (String Global) ListFault → Type 0
 Prints bs (Ok text) = OfBoard bs (string_bytes text)
-Prints bs (Err (Refused line)) = OfRefusal bs (string_bytes line)
-Prints bs (Err Memory) = Unit {0}
+Prints bs (Err (Refused refusal)) = OfRefusal bs refusal
+Prints bs (Err Memory) = Right bs
+
+-- a fault of the reader, handed on
+abbrev pub listed : ReadFault → ListFault
+listed (BrokenBy fault) = Refused (told fault)
+listed NoMemory = Memory

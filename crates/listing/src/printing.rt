@@ -1,7 +1,7 @@
 // From the bytes of a board file to the text that is printed of it.
 ghost use Rattle.std.specs.Prelude.{◌≡◌};
 ghost use Rattle.listing.specs.declared.printing.ListFault.TheVariants.{Memory};
-ghost use Rattle.listing.specs.Printing.{Prints};
+ghost use Rattle.listing.specs.Printing.{Prints, listed};
 
 use crate::lines::order_lines;
 use board::board::Board;
@@ -10,12 +10,25 @@ use refusal::Refusal;
 use std::alloc::{AllocError, Global};
 
 // Why the devices of a board file are not listed.
-#[derive(Debug, Drop)]
+#[derive(Clone, Copy, PartialEq, Eq, Debug)]
 pub enum ListFault {
-    // The file is refused, and this line tells by which rule.
-    Refused { line: String },
-    // There is no memory for the text.
+    // The file is refused.
+    Refused { refusal: Refusal },
+    // It is a board, but there is no memory for it or for the text.
     Memory,
+}
+
+impl From<ReadFault> for ListFault {
+    ghost from_gives = { λ fault r. r ≡ listed fault };
+
+    fn from(fault: ReadFault) -> ListFault {
+        match fault {
+            ReadFault::Board { fault } => ListFault::Refused {
+                refusal: Refusal::from(fault),
+            },
+            ReadFault::Memory => ListFault::Memory,
+        }
+    }
 }
 
 impl From<AllocError> for ListFault {
@@ -26,16 +39,10 @@ impl From<AllocError> for ListFault {
     }
 }
 
-// The lines of the board that the bytes of a board file describe, or the line of their refusal.
+// The lines of the board that the bytes of a board file describe, or their refusal.
 pub fn list(heap: Global, bytes: &[u8]) -> Result<String, ListFault>
     ensures { Prints bytes.now result }
 {
-    match Board::read(heap, bytes) {
-        Ok(board) => Ok(order_lines(heap, &board)?),
-        Err(ReadFault::Board { fault }) => {
-            let line = format!(in heap; "{}\n", Refusal::from(fault))?;
-            Err(ListFault::Refused { line })
-        }
-        Err(ReadFault::Memory) => Err(ListFault::Memory),
-    }
+    let board = Board::read(heap, bytes)?;
+    Ok(order_lines(heap, &board)?)
 }

@@ -17,8 +17,9 @@ fn a_board_is_listed(rt: HostRuntime) -> Result<(), Fail> {
 #[test]
 fn a_refusal_is_told_by_its_line(rt: HostRuntime) -> Result<(), Fail> {
     match list(rt.alloc(), &ONE_DEVICE[1..]) {
-        Err(ListFault::Refused { line }) => {
-            assert!(rt; line.as_str() == "! 3 4 15\n");
+        Err(ListFault::Refused { refusal }) => {
+            let line = format!(in rt.alloc(); "{refusal}")?;
+            assert!(rt; line.as_str() == "! 3 4 15");
             Ok(())
         }
         _ => Err(Fail::new("not refused")),

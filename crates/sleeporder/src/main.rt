@@ -1,25 +1,40 @@
 // sleeporder: prints the order in which the devices of the board in `board.bin` go to sleep, or why the file is refused.
 #![tactic(auto)]
 
+use frame::limits::MOST_BYTES;
 use listing::printing::{ListFault, list};
+use std::fs::File;
+use std::io::{self, ErrorKind, Read};
 use std::process::ExitCode;
-use std::{fs, io};
 
-// The bytes of a file, or none where it cannot be read.
-fn bytes_of(rt: &HostRuntime, path: &str) -> Vec<u8> {
-    fs::read(rt, path).unwrap_or_else(|_| Vec::new(rt.alloc()))
+// The bytes of a file, of a longer one just enough to show that it is longer than a board file; none where it cannot be
+// read. Want of memory says nothing of the file, and is a fault of its own.
+fn bytes_of(rt: &HostRuntime, path: &str) -> Result<Vec<u8>, ListFault> {
+    let mut bytes = Vec::new(rt.alloc());
+    let most = MOST_BYTES as u64 + 1;
+    let read = File::open(rt, path).and_then(|file| file.take(most).read_to_end(&mut bytes));
+    match read {
+        Ok(_) => Ok(bytes),
+        Err(e) if e.kind() == ErrorKind::OutOfMemory => Err(ListFault::Memory),
+        Err(_) => Ok(Vec::new(rt.alloc())),
+    }
+}
+
+// The lines of the board file in the current folder.
+fn lines_of_board(rt: &HostRuntime) -> Result<String, ListFault> {
+    let bytes = bytes_of(rt, "board.bin")?;
+    list(rt.alloc(), &bytes)
 }
 
 // Prints the lines of the board file, or the line of its refusal, and answers how the program ends.
 fn print_order(rt: &HostRuntime) -> io::Result<ExitCode> {
-    let bytes = bytes_of(rt, "board.bin");
-    match list(rt.alloc(), &bytes) {
+    match lines_of_board(rt) {
         Ok(lines) => {
             print!(rt; "{lines}")?;
             Ok(ExitCode::SUCCESS)
         }
-        Err(ListFault::Refused { line }) => {
-            print!(rt; "{line}")?;
+        Err(ListFault::Refused { refusal }) => {
+            println!(rt; "{refusal}")?;
             Ok(ExitCode::FAILURE)
         }
         Err(ListFault::Memory) => {

@@ -2,8 +2,7 @@
 ghost use Rattle.std.specs.Prelude.{◌≡◌, ◌+◌, ◌*◌, ◌≤◌, length, Decides, MatchResult};
 ghost use Rattle.boardfile.specs.Layout.{trailer, two_bytes};
 ghost use Rattle.boardfile.specs.Rules.{Sized, Marked, Counted, Tabled, Framed};
-ghost use Rattle.boardfile.specs.Faults.{Refused};
-ghost use Rattle.frame.specs.Reads.{CountsOf, Room, FrameOf};
+ghost use Rattle.frame.specs.Reads.{CountsOf, Room, FrameOf, Unframed};
 
 use crate::frame::Frame;
 use crate::limits::{DEVICE_BYTES, LEAST_BYTES, LINK_BYTES, MOST_BYTES, MOST_DEVICES, MOST_LINKS};
@@ -48,7 +47,7 @@ fn fits(t: usize, counts: &Counts, device_distance: usize, link_distance: usize)
 
 impl<'a> Trailer<'a> {
     fn find(file: &'a [u8]) -> Result<Trailer<'a>, BoardFault>
-        ensures { MatchResult result (λ t. t.file.now ≡ file.now) (Refused file.now) }
+        ensures { MatchResult result (λ t. t.file.now ≡ file.now) (Unframed file.now) }
     {
         let size = file.len();
         if !(LEAST_BYTES..=MOST_BYTES).contains(&size) {
@@ -71,7 +70,7 @@ impl<'a> Trailer<'a> {
 
     // The mark and the edition.
     fn check_mark(&self) -> Result<(), BoardFault>
-        ensures { MatchResult result (λ _. Marked self.now.file.now) (Refused self.now.file.now) }
+        ensures { MatchResult result (λ _. Marked self.now.file.now) (Unframed self.now.file.now) }
     {
         let t = usize::from(self.place);
         if &self.file[t..t + 4] != b"SLPB".as_slice() || self.file[t + 4] != 1 {
@@ -83,7 +82,7 @@ impl<'a> Trailer<'a> {
     // The counts, within their limits.
     fn counts(&self) -> Result<Counts, BoardFault>
         requires { Marked self.now.file.now }
-        ensures { MatchResult result (λ counts. Counted self.now.file.now × CountsOf self.now.file.now counts) (Refused self.now.file.now) }
+        ensures { MatchResult result (λ counts. Counted self.now.file.now × CountsOf self.now.file.now counts) (Unframed self.now.file.now) }
     {
         let t = usize::from(self.place);
         let (register, bus, quiet) = (self.file[t + 5], self.file[t + 6], self.file[t + 7]);
@@ -110,7 +109,7 @@ impl<'a> Trailer<'a> {
         requires marked { Marked self.now.file.now }
         requires counted { Counted self.now.file.now }
         requires counts { CountsOf self.now.file.now counts.now }
-        ensures { MatchResult result (λ frame. Framed self.now.file.now × FrameOf self.now.file.now frame) (Refused self.now.file.now) }
+        ensures { MatchResult result (λ frame. Framed self.now.file.now × FrameOf self.now.file.now frame) (Unframed self.now.file.now) }
     {
         let (device_distance, link_distance) = (self.two_bytes(12), self.two_bytes(14));
         let t = usize::from(self.place);
@@ -136,7 +135,7 @@ impl<'a> Trailer<'a> {
 impl<'a> Frame<'a> {
     // The file with what its trailer says, or the first of the trailer's rules that is broken.
     pub fn read(file: &'a [u8]) -> Result<Frame<'a>, BoardFault>
-        ensures { MatchResult result (λ frame. Framed file.now × FrameOf file.now frame) (Refused file.now) }
+        ensures { MatchResult result (λ frame. Framed file.now × FrameOf file.now frame) (Unframed file.now) }
     {
         let trailer = Trailer::find(file)?;
         trailer.check_mark()?;
