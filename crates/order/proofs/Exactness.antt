@@ -8,7 +8,7 @@ use Rattle.order.specs.declared.ordering.Circle.{Circle}
 use Rattle.order.specs.Orders.{IsTheOrder, Circular, Orderable}
 use Rattle.order.specs.Answers.{Superior, devices, Answers, answered, Exact}
 use Rattle.order.specs.Rule.{ordering}
-use Rattle.order.proofs.Relations.{kept_order, least_unique}
+use Rattle.order.proofs.Relations.{kept_order, least_unique, least_precedes, order_ends}
 use Rattle.order.proofs.Executes.{ordering_right}
 
 -- the devices of an order are the order of its table
@@ -58,6 +58,8 @@ exact table r answers =
       orders = subst (λ b. (b ≡ true) ↔ Orderable n R) (ok_answered r) (orders n R (answered r) right);
       gives = λ order. ((λ e. subst Right e right), (λ is. right_same n R (answered r) (Ok order) right is));
       names = λ d. ((λ e. subst Right e right), (λ is. right_same n R (answered r) (Err d) right is));
+      ends = λ d endless o. order_ends n R table.known o.0 o.1 d endless;
+      suffices = least_precedes n R table.known;
       pinned = least_unique n R;
       computes = λ above tests. right_same n R (answered r) (ordering n above) right (ordering_right n above R tests table.known);
     }

@@ -1,11 +1,11 @@
 -- What the calls of this crate answer, over tables of superiors and orders.
-use Rattle.std.specs.Prelude.{◌≡◌, ℕ, ◌/◌, ◌%◌, ◌^◌, ◌<◌, ◌≤◌, ◌⊎◌, Bool, true, ◌↔◌, List, take, is_ok, Some, None, Ok, Err, filter, Option, Result, ◌==◌, slice_index_or}
+use Rattle.std.specs.Prelude.{◌≡◌, ℕ, ◌/◌, ◌%◌, ◌^◌, ◌<◌, ◌≤◌, Bool, true, ◌↔◌, List, length, take, is_ok, Some, None, Ok, Err, filter, Option, Result, ◌==◌, slice_index_or}
 use Rattle.std.specs.List.{range_with_len}
 use Rattle.order.specs.declared.superiors.Superiors.{Superiors}
 use Rattle.order.specs.declared.superiors.NoDevice.{NoDevice}
 use Rattle.order.specs.declared.ordering.Order.{Order}
 use Rattle.order.specs.declared.ordering.Circle.{Circle}
-use Rattle.order.specs.Orders.{IsTheOrder, Orderable, Circular, Pinned}
+use Rattle.order.specs.Orders.{IsTheOrder, Orderable, Circular, Endless, LeastFirst, Precedes, Pinned}
 use Rattle.order.specs.Sets.{none}
 use Rattle.order.specs.Tables.{Above, Adds}
 use Rattle.order.specs.Rule.{Tests, ordering}
@@ -27,11 +27,12 @@ abbrev pub Made : ℕ → Option Superiors → Type 0
 Made count None = (1 ≤ count) × (count ≤ 64) → ⊥
 Made count (Some table) = (table.count ≡ count) × ((s d : ℕ) → Superior table s d → ⊥)
 
--- both are devices, and s is a superior of d from now on; or one is none, nothing has changed, and its number is told
+-- both are devices, and s is a superior of d from now on; or one is none, nothing has changed, and the number told is s, or d
+-- where s is a device
 abbrev pub Added : Superiors → Superiors → ℕ → ℕ → Result (Unit {0}) NoDevice → Type 0
 Added before after s d (Ok done) = (s < before.count) × (d < before.count) × (after.count ≡ before.count) × Adds before.sets after.sets s d
 Added before after s d (Err missing) =
-    ((s < before.count) × (d < before.count) → ⊥) × (after ≡ before) × (before.count ≤ missing.number) × ((missing.number ≡ s) ⊎ (missing.number ≡ d))
+    (before.count ≤ missing.number) × (after ≡ before) × (before.count ≤ s → missing.number ≡ s) × (s < before.count → missing.number ≡ d)
 
 -- the devices in their order
 abbrev pub devices : Order → List ℕ
@@ -54,6 +55,10 @@ pub record Exact (table : Superiors) (r : Result Order Circle) : Type 0 where
   pub gives : (order : List ℕ) → (answered r ≡ Ok order) ↔ IsTheOrder table.count (Superior table) order
   -- a device is named exactly where there is no order, and it is the least one from which a chain of superiors never ends
   pub names : (d : ℕ) → (answered r ≡ Err d) ↔ Circular table.count (Superior table) d
+  -- there is none as soon as some chain of superiors never ends
+  pub ends : (d : ℕ) → Endless (Superior table) d → Orderable table.count (Superior table) → ⊥
+  -- to take the least at each place is enough: no device is left out or taken twice, and superiors come first
+  pub suffices : (order : List ℕ) → length order ≡ table.count → LeastFirst table.count (Superior table) order → Precedes table.count (Superior table) order
   -- the rule leaves no choice
   pub pinned : Pinned table.count (Superior table)
   -- and it executes

@@ -1,6 +1,8 @@
 // How the order is found, and how it is read.
-ghost use Rattle.std.specs.Prelude.{◌≡◌};
-ghost use Rattle.order.specs.Orders.{IsTheOrder};
+ghost use Rattle.std.specs.Prelude.{◌≡◌, ℕ, ◌<◌, ◌⊎◌, MatchOption};
+ghost use Rattle.order.specs.Sets.{In, With};
+ghost use Rattle.order.specs.Tables.{Free, Held};
+ghost use Rattle.order.specs.Orders.{IsTheOrder, Least};
 ghost use Rattle.order.specs.Answers.{Superior, devices, Answers, Exact};
 
 use crate::ordering::{Circle, Order};
@@ -8,6 +10,14 @@ use crate::set::DeviceSet;
 use crate::superiors::Superiors;
 
 impl Superiors {
+    // The device that comes next, and the placed ones with it.
+    fn place_next(&self, placed: DeviceSet) -> Option<(u8, DeviceSet)>
+        ensures { MatchOption result ((d : ℕ) → d < self.now.count → In placed d ⊎ Held self.now.sets placed d) (λ next. Least (Free self.now.count self.now.sets placed) next.0 × With placed next.1 next.0) }
+    {
+        let device = self.next(placed)?;
+        Some((device, placed.with(device)))
+    }
+
     // The order of the table's devices, or why there is none.
     pub fn order(self) -> Result<Order, Circle>
         ensures answers { Answers self result }
@@ -16,11 +26,11 @@ impl Superiors {
         let mut places = [0; 64];
         let mut placed = DeviceSet::empty();
         for place in &mut places {
-            let Some(device) = self.next(placed) else {
+            let Some((device, more)) = self.place_next(placed) else {
                 break;
             };
             *place = device;
-            placed = placed.with(device);
+            placed = more;
         }
         match self.least_absent(placed) {
             Some(device) => Err(Circle { device }),

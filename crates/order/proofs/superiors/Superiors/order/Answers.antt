@@ -9,7 +9,7 @@ use Rattle.order.proofs.superiors.Superiors.order.Goals as goal
 use Rattle.order.proofs.superiors.Superiors.order.Goals.{else-loop-place-test, then-loop-place-test+in_default}
 
 pub loop-place-preserved : goal.loop-place-preserved
-loop-place-preserved c = runs_more c.loop-place.invariant c.in-Some.ensures c.with-placed.ensures
+loop-place-preserved c = runs_more c.loop-place.invariant c.in-Some.ensures.0 c.in-Some.ensures.1
 
 pub invariant_of-result : goal.invariant_of-result
 invariant_of-result c =
