@@ -1,6 +1,7 @@
 -- What is printed of a board file: the lines of its board, or the line of its refusal.
-use Rattle.std.specs.Prelude.{◌≡◌, ℕ, List, Ok, Err, Result, String, string_bytes}
+use Rattle.std.specs.Prelude.{◌≡◌, ℕ, List, [], ◌++◌, codes, Ok, Err, Result, String, string_bytes}
 use Rattle.std.specs.declared.alloc.Global.{Global}
+use Rattle.refusal.specs.Lines.{line as refusal_line}
 use Rattle.refusal.specs.declared.refusal.Refusal.{Refusal}
 use Rattle.board.specs.declared.board.Board.{Board}
 use Rattle.boardfile.specs.declared.fault.BoardFault.{BoardFault}
@@ -30,3 +31,9 @@ Prints bs (Err Memory) = Right bs
 abbrev pub listed : ReadFault → ListFault
 listed (BrokenBy fault) = Refused (told fault)
 listed NoMemory = Memory
+
+-- the bytes that are printed: the lines, or the line of the refusal with its end
+abbrev pub printed : Result (String Global) ListFault → List ℕ
+printed (Ok text) = string_bytes text
+printed (Err (Refused refusal)) = refusal_line refusal ++ codes "\n"
+printed (Err Memory) = []

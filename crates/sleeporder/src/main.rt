@@ -2,7 +2,7 @@
 #![tactic(auto)]
 
 use frame::limits::MOST_BYTES;
-use listing::printing::{ListFault, list};
+use listing::printing::{ListFault, list, write_listed};
 use std::fs::File;
 use std::io::{self, ErrorKind, Read};
 use std::process::ExitCode;
@@ -28,15 +28,11 @@ fn lines_of_board(rt: &HostRuntime) -> Result<String, ListFault> {
 
 // Prints the lines of the board file, or the line of its refusal, and answers how the program ends.
 fn print_order(rt: &HostRuntime) -> io::Result<ExitCode> {
-    match lines_of_board(rt) {
-        Ok(lines) => {
-            print!(rt; "{lines}")?;
-            Ok(ExitCode::SUCCESS)
-        }
-        Err(ListFault::Refused { refusal }) => {
-            println!(rt; "{refusal}")?;
-            Ok(ExitCode::FAILURE)
-        }
+    let listed = lines_of_board(rt);
+    write_listed(&listed, &mut io::writer(rt))?;
+    match listed {
+        Ok(_) => Ok(ExitCode::SUCCESS),
+        Err(ListFault::Refused { .. }) => Ok(ExitCode::FAILURE),
         Err(ListFault::Memory) => {
             eprintln!(rt; "sleeporder: not enough memory")?;
             Ok(ExitCode::FAILURE)
