@@ -1,3 +1,4 @@
 pub mod Exclusion
 pub mod Naming
 pub mod Printing
+pub mod Ignoring

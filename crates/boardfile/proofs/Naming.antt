@@ -10,6 +10,7 @@ use Rattle.boardfile.specs.Rules.{Apart, Named, Framed, RightDevices, not_zero, 
 use Rattle.boardfile.specs.declared.device.Device.{Device}
 use Rattle.boardfile.specs.Contents.{blank, device_of, devices_of, AsciiNames}
 use Rattle.boardfile.specs.Laws.{ShareNone, Laws}
+use Rattle.boardfile.proofs.Ignoring.{ignored}
 
 -- ---- spans
 
@@ -69,4 +70,4 @@ ascii_names bs right devices is i k = rw is (go (cases_lt i (device_count bs)))
     go (inr l) = rw (get_or_past (devices_of bs) i blank (simp length-map-range_with_len l)) (lit< tt)
 
 pub laws : (bs : List ℕ) → Laws bs
-laws bs = record { apart = λ a k b l some more. (apart_shares a k b l, shares_apart a k b l some more); sizes = sizes bs; names = names bs }
+laws bs = record { apart = λ a k b l some more. (apart_shares a k b l, shares_apart a k b l some more); sizes = sizes bs; names = names bs; ignored = ignored bs }
