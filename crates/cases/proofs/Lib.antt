@@ -1,3 +1,4 @@
 pub mod Testing
+pub mod Outcome
 pub mod Showing
 pub mod Proved

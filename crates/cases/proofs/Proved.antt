@@ -1,11 +1,20 @@
--- The worked cases, one by one.
-use Rattle.std.proofs.Common.{[], ◌∷◌, refl}
-use Rattle.cases.specs.Cases.{AllHold, AllChecked}
-use Rattle.cases.specs.Boards.{three_devices, four_devices, circle}
-use Rattle.cases.proofs.Showing.{reads_holds, reads_checked, refuses_holds, refuses_checked}
+-- The worked cases: each is computed, and what the contracts say of it follows.
+use Rattle.std.proofs.Common.{refl}
+use Rattle.std.specs.List.{AllByRecursion}
+use Rattle.std.specs.Fmt.{digits}
+use Rattle.cases.specs.Cases.{AllHold, AllChecked, AllPrinted, cases}
+use Rattle.cases.proofs.Showing.{Passes, holds, is_checked, is_printed, of_each}
+
+all_pass : AllByRecursion Passes cases
+unfolding digits
+all_pass =
+    ((refl, refl, refl), ((refl, refl, refl), ((refl, refl), ((refl, refl), ((refl, refl), ((refl, refl), ((refl, refl), ((refl, refl), ((refl, refl), tt)))))))))
 
 pub all_hold : AllHold
-all_hold = (reads_holds three_devices refl (0 ∷ 1 ∷ 2 ∷ []) refl, (reads_holds four_devices refl (1 ∷ 3 ∷ 0 ∷ 2 ∷ []) refl, (refuses_holds circle refl 0 refl, tt)))
+all_hold = of_each holds cases all_pass
 
 pub all_checked : AllChecked
-all_checked = (reads_checked three_devices refl (0 ∷ 1 ∷ 2 ∷ []) refl, (reads_checked four_devices refl (1 ∷ 3 ∷ 0 ∷ 2 ∷ []) refl, (refuses_checked circle refl 0 refl, tt)))
+all_checked = of_each is_checked cases all_pass
+
+pub all_printed : AllPrinted
+all_printed = of_each is_printed cases all_pass

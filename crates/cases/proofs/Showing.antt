@@ -1,104 +1,119 @@
--- A worked case holds where the tests pass and the rule for the order, executed, gives what is expected.
-use Rattle.std.proofs.Common.{rules, ◌≡◌, ℕ, zero, suc, ◌<◌, Bool, true, false, cond, ◌&&◌, ◌||◌, eqb, ltb, List, map, Some, None, Ok, Err, Decides, Option, Result, refl, subst, inl, inr, arith, MatchResult}
-use Rattle.std.proofs.lemmas.Bool.Decides.{Decides-eqb, Decides-ltb, Decides-and, Decides-or, Decides-below_or, Decides-like}
+-- A worked case holds where the tests, executed, come to what is expected, and the lines, computed, are the expected text.
+use Rattle.std.proofs.Common.{◌≡◌, ℕ, Bool, List, [], ◌∷◌, ◌++◌, map, codes, filter, get_or, Ok, Err, Result, String, ◌∙◌, subst}
+use Rattle.std.specs.List.{AllByRecursion, flat_map, range_with_len}
+use Rattle.std.specs.declared.alloc.Global.{Global}
+use Rattle.std.proofs.lemmas.Bool.Decides.{Decides-like, same_from_decides}
 use Rattle.order.specs.declared.ordering.Order.{Order}
-use Rattle.order.specs.Orders.{IsTheOrder, Circular}
-use Rattle.order.specs.Rule.{Tests, ordering}
+use Rattle.order.specs.Orders.{IsTheOrder}
+use Rattle.order.specs.Answers.{is_superior, devices}
 use Rattle.order.proofs.Exactness.{order_same}
-use Rattle.order.proofs.Executes.{ordering_right}
-use Rattle.board.specs.declared.board.Board.{Board}
+use Rattle.order.proofs.Tables.{is_superior_tests}
+use Rattle.refusal.specs.Lines.{line}
 use Rattle.boardfile.specs.declared.device.Device.{Device}
 use Rattle.boardfile.specs.declared.fault.BoardFault.{BoardFault}
-use Rattle.boardfile.specs.declared.fault.BoardFault.TheVariants.{Circle}
 use Rattle.boardfile.specs.declared.fault.ReadFault.{ReadFault}
 use Rattle.boardfile.specs.declared.fault.ReadFault.TheVariants.{Board as BrokenBy, Memory}
-use Rattle.boardfile.specs.Layout.{device_count, link_count, parent_byte, consumer, supplier}
-use Rattle.boardfile.specs.Contents.{text, parent, devices_of, links_of, kinds_of, SuperiorIn}
-use Rattle.boardfile.specs.Faults.{Refused, Right}
+use Rattle.boardfile.specs.Layout.{device_count}
+use Rattle.boardfile.specs.Contents.{text, blank, devices_of, links_of, kinds_of, SuperiorIn}
+use Rattle.boardfile.specs.Faults.{Refused, Right, told}
+use Rattle.boardfile.proofs.Exclusion.{refused_once, refused_wrong}
+use Rattle.board.specs.declared.board.Board.{Board}
 use Rattle.board.specs.Checking.{Checks}
-use Rattle.board.specs.Reading.{Reads}
-use Rattle.boardfile.proofs.Exclusion.{refused_wrong}
+use Rattle.board.specs.Reading.{Reads, Says}
 use Rattle.board.proofs.Exactness.{exact, exactly}
-use Rattle.cases.specs.Cases.{Contents, HasRead, HasOrder}
-use Rattle.cases.proofs.Testing.{records, records_show}
+use Rattle.listing.specs.declared.printing.ListFault.{ListFault}
+use Rattle.listing.specs.declared.printing.ListFault.TheVariants.{Refused as IsRefused, Memory as NoMemory}
+use Rattle.listing.specs.Lines.{lines}
+use Rattle.listing.specs.Printing.{Prints}
+use Rattle.cases.specs.Cases.{Case, Contents, reads, refuses, HasRead, HasOrder, HasPrinted, Holds, IsChecked, IsPrinted}
+use Rattle.cases.proofs.Outcome.{superior, superior_tests, outcome, IsRight, outcome_right}
 
-abbrev some_below : ℕ → (ℕ → Bool) → Bool
-some_below zero test = false
-some_below (suc n) test = test n || some_below n test
-
-abbrev is : Option ℕ → ℕ → Bool
-is None s = false
-is (Some p) s = eqb p s
-
-is_decides : (o : Option ℕ) (s : ℕ) → Decides (is o s) (o ≡ Some s)
-is_decides None s = search rules
-is_decides (Some p) s = search rules
-
--- a parent that is none of 255
-parent_is : (b s : ℕ) (t : Bool) → eqb b 255 ≡ t → cond t None (Some b) ≡ Some s → (b ≡ s) × (b ≡ 255 → ⊥)
-parent_is b s true q e = search rules
-parent_is b s false q e = search rules
+-- the lines of these devices in this order, with the superiors that a test finds below n
+abbrev listed : List Device → (ℕ → ℕ → Bool) → ℕ → List ℕ → List ℕ
+listed devices above n order =
+    let name : ℕ → List ℕ = λ d. text (get_or devices d blank).name in
+    flat_map (λ d. name d ++ flat_map (λ s. codes " " ++ name s) (filter (λ s. above s d) (range_with_len 0 n)) ++ codes "\n") order
 
 module _ (bs : List ℕ) where
-  abbrev pub superior : ℕ → ℕ → Bool
-  superior s d = (ltb d (device_count bs) && is (parent bs d) s) || some_below (link_count bs) (λ j. eqb (consumer bs j) d && eqb (supplier bs j) s)
+  -- what the bytes say, and what is printed of them, with the order that the rule gives
+  abbrev pub said : List ℕ → Contents
+  said order =
+      record {
+        names = map (λ (d : Device). text d.name) (devices_of bs);
+        parents = map (λ (d : Device). d.parent) (devices_of bs);
+        words = map (λ (d : Device). d.word) (devices_of bs);
+        links = links_of bs;
+        kinds = kinds_of bs;
+        order = order;
+      }
 
-  superior_tests : Tests superior (SuperiorIn bs)
-  superior_tests s d =
-      Decides-or _ _ (Decides-and _ _ (Decides-ltb d (device_count bs)) (is_decides (parent bs d) s))
-      (Decides-like _ (λ t. (t.0, t.1, t.2.0, t.2.1)) (λ t. (t.0, t.1, (t.2, t.3)))
-      (Decides-below_or _ (λ j. (consumer bs j ≡ d) × (supplier bs j ≡ s)) (λ m. some_below m (λ j. eqb (consumer bs j) d && eqb (supplier bs j) s))
-      (λ j. Decides-and _ _ (Decides-eqb (consumer bs j) d) (Decides-eqb (supplier bs j) s)) refl (λ _. refl) (link_count bs)))
+  abbrev pub printed : List ℕ → List ℕ
+  printed order = listed (devices_of bs) (superior bs) (device_count bs) order
 
-  module _ (passes : records bs ≡ true) where
-    superior_within : (s d : ℕ) → SuperiorIn bs s d → (s < device_count bs) × (d < device_count bs)
-    superior_within s d (inl (l, e)) =
-        let p = parent_is (parent_byte bs d) s _ refl e in
-        elim ((records_show bs passes).1 d l).parent [ inl q ↦ absurd (p.1 q) | inr q ↦ (omega (arith, q.0, p.0), l) ]
-    superior_within s d (inr (j, l, e, f)) = let right = (records_show bs passes).2 j l in (omega (arith, right.supplies, f), omega (arith, right.consumes, e))
+  module _ (order : List ℕ) (e : outcome bs ≡ Ok order) where
+    right : Right bs × IsTheOrder (device_count bs) (SuperiorIn bs) order
+    right = subst (IsRight bs) e (outcome_right bs)
 
-    abbrev Given : Result (List ℕ) ℕ → Type 0
-    Given r = MatchResult r (IsTheOrder (device_count bs) (SuperiorIn bs)) (Circular (device_count bs) (SuperiorIn bs))
+    same_order : (found : List ℕ) → IsTheOrder (device_count bs) (SuperiorIn bs) found → found ≡ order
+    same_order found is = order_same (device_count bs) (SuperiorIn bs) found order is right.1
 
-    -- what the executed rule gives is right
-    right : Given (ordering (device_count bs) superior)
-    right = ordering_right (device_count bs) superior (SuperiorIn bs) superior_tests superior_within
+    reads_holds : (r : Result Board ReadFault) → Reads bs r → HasRead (said order) r
+    reads_holds (Ok board) (good, says) = rw (says.devices, says.links, says.kinds, same_order _ says.order)
+    reads_holds (Err (BrokenBy f)) refused = refused_wrong bs f refused right.0
+    reads_holds (Err Memory) good = tt
 
-    -- what the bytes say, with the order that the rule gives
-    abbrev pub said : List ℕ → Contents
-    said order =
-        record {
-          names = map (λ (d : Device). text d.name) (devices_of bs);
-          parents = map (λ (d : Device). d.parent) (devices_of bs);
-          words = map (λ (d : Device). d.word) (devices_of bs);
-          links = links_of bs;
-          kinds = kinds_of bs;
-          order = order;
-        }
+    reads_checked : (r : Result Order BoardFault) → Checks bs r → HasOrder order r
+    reads_checked (Ok found) (good, ordered) = same_order _ ordered.least_first
+    reads_checked (Err f) refused = refused_wrong bs f refused right.0
 
-    keeps_all : (order : List ℕ) → ordering (device_count bs) superior ≡ Ok order → Right bs
-    keeps_all order e =
-        let shown = records_show bs passes in
-        let given = subst Given e right in
-        record { framed = shown.0; devices = shown.1; links = shown.2; no_circle = (order, given.0) }
+    -- the table of a board that says what the bytes say answers as the test does
+    same_superior : (board : Board) → Says bs board → (s d : ℕ) → is_superior board.order.superiors s d ≡ superior bs s d
+    same_superior board says s d =
+        let table = board.order.superiors in
+        same_from_decides _ _ (Decides-like _ (says.superiors.only s d) (says.superiors.adds s d) (is_superior_tests table s d)) (superior_tests bs s d)
 
-    same_order : (order found : List ℕ) → ordering (device_count bs) superior ≡ Ok order → IsTheOrder (device_count bs) (SuperiorIn bs) found → found ≡ order
-    same_order order found e is = order_same (device_count bs) (SuperiorIn bs) found order is (subst Given e right)
+    lines_printed : (board : Board) → Says bs board → lines board ≡ printed order
+    lines_printed board says = λ i. listed (says.devices i) (λ s d. same_superior board says s d i) (says.superiors.count i) (same_order _ says.order i)
 
-    pub reads_holds : (order : List ℕ) → ordering (device_count bs) superior ≡ Ok order → (r : Result Board ReadFault) → Reads bs r → HasRead (said order) r
-    reads_holds order e (Ok board) (good, says) = rw (says.devices, says.links, says.kinds, same_order order _ e says.order)
-    reads_holds order e (Err (BrokenBy f)) refused = refused_wrong bs f refused (keeps_all order e)
-    reads_holds order e (Err Memory) good = tt
+    reads_printed : (r : Result (String Global) ListFault) → Prints bs r → HasPrinted (printed order) r
+    reads_printed (Ok shown) (board, good, says, is) = is ∙ lines_printed board says
+    reads_printed (Err (IsRefused refusal)) (f, refused, is) = refused_wrong bs f refused right.0
+    reads_printed (Err NoMemory) good = tt
 
-    pub reads_checked : (order : List ℕ) → ordering (device_count bs) superior ≡ Ok order → (r : Result Order BoardFault) → Checks bs r → HasOrder order r
-    reads_checked order e (Ok found) (good, ordered) = same_order order _ e ordered.least_first
-    reads_checked order e (Err f) refused = refused_wrong bs f refused (keeps_all order e)
+  module _ (fault : BoardFault) (e : outcome bs ≡ Err fault) where
+    refused : Refused bs fault
+    refused = subst (IsRight bs) e (outcome_right bs)
 
-    refused : (d : ℕ) → ordering (device_count bs) superior ≡ Err d → Refused bs (Circle d)
-    refused d e = let shown = records_show bs passes in (shown.0, shown.1, shown.2, subst Given e right)
+    refuses_holds : (r : Result Board ReadFault) → Reads bs r → r ≡ Err (BrokenBy fault)
+    refuses_holds r answer = ((exact bs r answer).refuses fault).1 refused
 
-    pub refuses_holds : (d : ℕ) → ordering (device_count bs) superior ≡ Err d → (r : Result Board ReadFault) → Reads bs r → r ≡ Err (BrokenBy (Circle d))
-    refuses_holds d e r reads = ((exact bs r reads).refuses (Circle d)).1 (refused d e)
+    refuses_checked : (r : Result Order BoardFault) → Checks bs r → r ≡ Err fault
+    refuses_checked r answer = ((exactly bs r answer).refuses fault).1 refused
 
-    pub refuses_checked : (d : ℕ) → ordering (device_count bs) superior ≡ Err d → (r : Result Order BoardFault) → Checks bs r → r ≡ Err (Circle d)
-    refuses_checked d e r checks = ((exactly bs r checks).refuses (Circle d)).1 (refused d e)
+    refuses_printed : (r : Result (String Global) ListFault) → Prints bs r → r ≡ Err (IsRefused (told fault))
+    refuses_printed (Ok shown) (board, good, says, is) = absurd (refused_wrong bs fault refused good)
+    refuses_printed (Err (IsRefused refusal)) (f, so, is) = rw (is, refused_once bs f fault so refused)
+    refuses_printed (Err NoMemory) good = absurd (refused_wrong bs fault refused good)
+
+-- ---- the cases
+
+-- what is computed for a case is what is expected
+abbrev pub Passes : Case → Type 0
+Passes (reads bytes expected shown) = (outcome bytes ≡ Ok expected.order) × (said bytes expected.order ≡ expected) × (printed bytes expected.order ≡ shown)
+Passes (refuses bytes fault shown) = (outcome bytes ≡ Err fault) × (line (told fault) ≡ shown)
+
+pub holds : (c : Case) → Passes c → Holds c
+holds (reads bytes expected shown) (e, same, _) = λ r answer. subst (λ c. HasRead c r) same (reads_holds bytes expected.order e r answer)
+holds (refuses bytes fault shown) (e, _) = refuses_holds bytes fault e
+
+pub is_checked : (c : Case) → Passes c → IsChecked c
+is_checked (reads bytes expected shown) (e, _, _) = reads_checked bytes expected.order e
+is_checked (refuses bytes fault shown) (e, _) = refuses_checked bytes fault e
+
+pub is_printed : (c : Case) → Passes c → IsPrinted c
+is_printed (reads bytes expected shown) (e, _, same) = λ r answer. subst (λ t. HasPrinted t r) same (reads_printed bytes expected.order e r answer)
+is_printed (refuses bytes fault shown) (e, same) = (refuses_printed bytes fault e, same)
+
+pub of_each : {P Q : Case → Type 0} → ((c : Case) → P c → Q c) → (cs : List Case) → AllByRecursion P cs → AllByRecursion Q cs
+of_each f [] all = tt
+of_each f (c ∷ cs) (here, rest) = (f c here, of_each f cs rest)

@@ -1,6 +1,7 @@
 -- The worked cases, as one list.
-use Rattle.std.specs.Prelude.{◌≡◌, ℕ, List, [], ◌∷◌, map, Some, None, Ok, Err, vec_items, codes, Option, Result}
+use Rattle.std.specs.Prelude.{◌≡◌, ℕ, List, [], ◌∷◌, map, Some, None, Ok, Err, vec_items, codes, Option, Result, String, string_bytes}
 use Rattle.std.specs.List.{AllByRecursion}
+use Rattle.std.specs.declared.alloc.Global.{Global}
 use Rattle.order.specs.declared.ordering.Order.{Order}
 use Rattle.order.specs.Answers.{devices}
 use Rattle.board.specs.declared.board.Board.{Board}
@@ -8,13 +9,18 @@ use Rattle.boardfile.specs.declared.device.Device.{Device}
 use Rattle.boardfile.specs.declared.device.Kinds.{Kinds}
 use Rattle.boardfile.specs.declared.device.Link.{Link}
 use Rattle.boardfile.specs.declared.fault.BoardFault.{BoardFault}
-use Rattle.boardfile.specs.declared.fault.BoardFault.TheVariants.{Circle}
+use Rattle.boardfile.specs.declared.fault.BoardFault.TheVariants.{Size, Mark, Counts, Tables, DeviceRecord, LinkRecord, Circle}
 use Rattle.boardfile.specs.declared.fault.ReadFault.{ReadFault}
 use Rattle.boardfile.specs.declared.fault.ReadFault.TheVariants.{Board as BrokenBy, Memory}
 use Rattle.boardfile.specs.Contents.{text}
+use Rattle.boardfile.specs.Faults.{told}
 use Rattle.board.specs.Checking.{Checks}
 use Rattle.board.specs.Reading.{Reads}
-use Rattle.cases.specs.Boards.{three_devices, four_devices, circle}
+use Rattle.refusal.specs.Lines.{line}
+use Rattle.listing.specs.declared.printing.ListFault.{ListFault}
+use Rattle.listing.specs.declared.printing.ListFault.TheVariants.{Refused as IsRefused, Memory as NoMemory}
+use Rattle.listing.specs.Printing.{Prints}
+use Rattle.cases.specs.Boards.{three_devices, four_devices, short, later_edition, no_devices, near_table, same_names, self_link, circle}
 
 -- ---- what a board has
 
@@ -40,10 +46,10 @@ contents board =
 -- ---- the cases
 
 pub data Case : Type 0 where
-  -- these bytes are read as a board with these contents
-  reads : List ℕ → Contents → Case
-  -- these bytes are refused so
-  refuses : List ℕ → BoardFault → Case
+  -- these bytes are read as a board with these contents, and this text is printed of it
+  reads : List ℕ → Contents → List ℕ → Case
+  -- these bytes are refused so, and this line is printed of it
+  refuses : List ℕ → BoardFault → List ℕ → Case
 
 -- a board with these contents, or want of memory
 abbrev pub HasRead : Contents → Result Board ReadFault → Type 0
@@ -53,8 +59,8 @@ HasRead expected (Err Memory) = Unit {0}
 
 -- whatever answer the reader's contract allows is the expected one
 abbrev pub Holds : Case → Type 0
-Holds (reads bytes expected) = (r : Result Board ReadFault) → Reads bytes r → HasRead expected r
-Holds (refuses bytes fault) = (r : Result Board ReadFault) → Reads bytes r → r ≡ Err (BrokenBy fault)
+Holds (reads bytes expected printed) = (r : Result Board ReadFault) → Reads bytes r → HasRead expected r
+Holds (refuses bytes fault printed) = (r : Result Board ReadFault) → Reads bytes r → r ≡ Err (BrokenBy fault)
 
 -- this order, and no refusal
 abbrev pub HasOrder : List ℕ → Result Order BoardFault → Type 0
@@ -63,8 +69,19 @@ HasOrder expected (Err fault) = ⊥
 
 -- whatever answer the contract of the check without memory allows is the expected one
 abbrev pub IsChecked : Case → Type 0
-IsChecked (reads bytes expected) = (r : Result Order BoardFault) → Checks bytes r → HasOrder expected.order r
-IsChecked (refuses bytes fault) = (r : Result Order BoardFault) → Checks bytes r → r ≡ Err fault
+IsChecked (reads bytes expected printed) = (r : Result Order BoardFault) → Checks bytes r → HasOrder expected.order r
+IsChecked (refuses bytes fault printed) = (r : Result Order BoardFault) → Checks bytes r → r ≡ Err fault
+
+-- this text, or want of memory
+abbrev pub HasPrinted : List ℕ → Result (String Global) ListFault → Type 0
+HasPrinted expected (Ok text) = string_bytes text ≡ expected
+HasPrinted expected (Err (IsRefused refusal)) = ⊥
+HasPrinted expected (Err NoMemory) = Unit {0}
+
+-- whatever answer the contract of `list` allows is the expected one, and the line of a refusal is the expected one
+abbrev pub IsPrinted : Case → Type 0
+IsPrinted (reads bytes expected printed) = (r : Result (String Global) ListFault) → Prints bytes r → HasPrinted printed r
+IsPrinted (refuses bytes fault printed) = ((r : Result (String Global) ListFault) → Prints bytes r → r ≡ Err (IsRefused (told fault))) × (line (told fault) ≡ printed)
 
 abbrev pub cases : List Case
 cases =
@@ -77,6 +94,7 @@ cases =
       kinds = record { register = 1; bus = 2; quiet = 0 };
       order = 0 ∷ 1 ∷ 2 ∷ [];
     })
+    (codes "clk\ni2c clk\nlcd i2c\n")
     ∷ reads four_devices
     (record {
       names = codes "a" ∷ codes "b" ∷ codes "c" ∷ codes "d" ∷ [];
@@ -86,13 +104,20 @@ cases =
       kinds = record { register = 4; bus = 0; quiet = 0 };
       order = 1 ∷ 3 ∷ 0 ∷ 2 ∷ [];
     })
-    ∷ refuses circle (Circle 0)
+    (codes "b\nd\na d\nc a\n")
+    ∷ refuses short Size (codes "! 3 1 0")
+    ∷ refuses later_edition (Mark 16) (codes "! 3 2 16")
+    ∷ refuses no_devices (Counts 16) (codes "! 3 3 16")
+    ∷ refuses near_table (Tables 16) (codes "! 3 4 16")
+    ∷ refuses same_names (DeviceRecord 16) (codes "! 3 5 16")
+    ∷ refuses self_link (LinkRecord 32) (codes "! 3 6 32")
+    ∷ refuses circle (Circle 0) (codes "! 3 7 0")
     ∷ []
 
 -- the board file of each case
 abbrev pub board_of : Case → List ℕ
-board_of (reads bytes expected) = bytes
-board_of (refuses bytes fault) = bytes
+board_of (reads bytes expected printed) = bytes
+board_of (refuses bytes fault printed) = bytes
 
 abbrev pub boards : List (List ℕ)
 boards = map board_of cases
@@ -102,3 +127,6 @@ AllHold = AllByRecursion Holds cases
 
 abbrev pub AllChecked : Type 0
 AllChecked = AllByRecursion IsChecked cases
+
+abbrev pub AllPrinted : Type 0
+AllPrinted = AllByRecursion IsPrinted cases

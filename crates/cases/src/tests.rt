@@ -32,7 +32,7 @@ fn four_devices_are_ordered(rt: HostRuntime) -> Result<(), Fail> {
 
 #[test]
 fn a_circle_is_refused(rt: HostRuntime) -> Result<(), Fail> {
-    let file = worked_board(2).ok_or("no such case")?;
+    let file = worked_board(8).ok_or("no such case")?;
     let fault = BoardFault::Circle { device: 0 };
     assert_eq!(rt;
         Board::read(rt.alloc(), file).err(),
