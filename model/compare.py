@@ -56,7 +56,11 @@ def differences(program, count):
         os.symlink("/dev/zero", path)
         if differs(program, folder, sleeporder.bytes_of(path)):
             different.append("a file without an end")
-    return runs + 3, different
+        with open("/dev/full", "wb") as full:
+            run = subprocess.run([program], cwd=folder, stdout=full, stderr=subprocess.PIPE, timeout=10, check=False)
+        if (run.stderr, run.returncode) != (b"", 1):
+            different.append("an output that takes nothing")
+    return runs + 4, different
 
 
 def main(arguments):

@@ -8,9 +8,9 @@ use Rattle.order.specs.Answers.{Added}
 use Rattle.boardfile.specs.declared.device.Link.{Link}
 use Rattle.boardfile.specs.Layout.{device_count, link_count, consumer, supplier}
 use Rattle.boardfile.specs.Rules.{RightLink}
-use Rattle.boardfile.specs.Contents.{link_of, link_in, parent, ParentIn}
+use Rattle.boardfile.specs.Contents.{link_of, parent, ParentIn}
 use Rattle.board.specs.declared.records.Records.{Records}
-use Rattle.board.specs.Records.{parent_in}
+use Rattle.board.specs.Records.{parent_in, link_in}
 use Rattle.board.specs.Wiring.{Gains}
 use Rattle.board.proofs.Known.{devices_known, links_known}
 use Rattle.board.proofs.Seen.{link_seen, parent_seen, parent_small}

@@ -8,10 +8,10 @@ use Rattle.std.proofs.lemmas.Bool.{eq-eqb}
 use Rattle.boardfile.specs.declared.device.Device.{Device}
 use Rattle.boardfile.specs.Layout.{byte, device_place, name_field, four_bytes, word, device_count, link_record}
 use Rattle.boardfile.specs.Rules.{RightDevice, RightLink}
-use Rattle.boardfile.specs.Contents.{parent, device_of, link_of, link_in}
+use Rattle.boardfile.specs.Contents.{parent, device_of, link_of}
 use Rattle.frame.specs.declared.frame.Frame.{Frame}
 use Rattle.std.proofs.lemmas.List.{get_or-take, length-take-le}
-use Rattle.board.specs.Records.{named, parent_in, device_in, IsParent}
+use Rattle.board.specs.Records.{named, parent_in, device_in, IsParent, link_in}
 use Rattle.board.proofs.Names.{named_decides}
 
 -- false where there is no proof

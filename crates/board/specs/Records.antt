@@ -2,6 +2,7 @@
 use Rattle.std.specs.Prelude.{ℕ, Bool, cond, ◌&&◌, ◌||◌, List, length, take, Some, None, Option, ⊤, MatchOption, ◌<◌, ◌≢◌, ◌==◌, nat_le, nat_lt, slice_index}
 use Rattle.order.specs.Rule.{all_below}
 use Rattle.boardfile.specs.declared.device.Device.{Device}
+use Rattle.boardfile.specs.declared.device.Link.{Link}
 use Rattle.boardfile.specs.Layout.{byte, four_bytes}
 use Rattle.boardfile.specs.Rules.{name_size}
 
@@ -31,3 +32,9 @@ device_in bytes = cond (named (take 8 bytes) && (byte bytes 9 == 0 && (byte byte
 -- none, or another of n devices
 abbrev pub IsParent : ℕ → ℕ → Option ℕ → Type 0
 IsParent n i parent = MatchOption parent ⊤ (λ p. (p < n) × (p ≢ i))
+
+-- ---- a link record
+
+-- nothing, unless its last two bytes are zero
+abbrev pub link_in : List ℕ → Option Link
+link_in bytes = cond (byte bytes 2 == 0 && byte bytes 3 == 0) (Some (record { consumer = byte bytes 0; supplier = byte bytes 1 })) None

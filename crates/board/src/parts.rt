@@ -1,7 +1,6 @@
 // A record of a board file, taken apart.
 ghost use Rattle.std.specs.Prelude.{◌≡◌};
-ghost use Rattle.boardfile.specs.Contents.{link_in};
-ghost use Rattle.board.specs.Records.{parent_in, device_in};
+ghost use Rattle.board.specs.Records.{parent_in, device_in, link_in};
 
 use boardfile::device::{Device, Link, Name};
 use frame::limits::{DeviceRecord, LinkRecord};

@@ -1,12 +1,12 @@
 -- What the bytes of a board file say of its devices and links.
-use Rattle.std.specs.Prelude.{◌≡◌, ℕ, ◌<◌, cond, ◌&&◌, ◌⊎◌, List, [], map, length, Some, None, Ok, Err, Option, Result, ◌==◌, slice_index, slice_index_or}
+use Rattle.std.specs.Prelude.{◌≡◌, ℕ, ◌<◌, cond, ◌⊎◌, List, [], map, length, Some, None, Ok, Err, Option, Result, ◌==◌, slice_index, slice_index_or}
 use Rattle.std.specs.List.{range_with_len}
 use Rattle.boardfile.specs.declared.device.Name.{Name}
 use Rattle.boardfile.specs.declared.device.NotAName.{NotAName}
 use Rattle.boardfile.specs.declared.device.Device.{Device}
 use Rattle.boardfile.specs.declared.device.Link.{Link}
 use Rattle.boardfile.specs.declared.device.Kinds.{Kinds}
-use Rattle.boardfile.specs.Layout.{byte, register_count, bus_count, quiet_count, device_count, link_count, name_field, parent_byte, word, consumer, supplier}
+use Rattle.boardfile.specs.Layout.{register_count, bus_count, quiet_count, device_count, link_count, name_field, parent_byte, word, consumer, supplier}
 use Rattle.boardfile.specs.Rules.{Named, shortened}
 
 -- a name without its padding
@@ -35,10 +35,6 @@ device_of bs i = record { name = record { padded = name_field bs i }; parent = p
 
 abbrev pub link_of : List ℕ → ℕ → Link
 link_of bs j = record { consumer = consumer bs j; supplier = supplier bs j }
-
--- a link record taken apart: nothing, unless its last two bytes are zero
-abbrev pub link_in : List ℕ → Option Link
-link_in bytes = cond (byte bytes 2 == 0 && byte bytes 3 == 0) (Some (record { consumer = byte bytes 0; supplier = byte bytes 1 })) None
 
 abbrev pub kinds_of : List ℕ → Kinds
 kinds_of bs = record { register = register_count bs; bus = bus_count bs; quiet = quiet_count bs }

@@ -1,5 +1,5 @@
 -- A worked case holds where the tests, executed, come to what is expected, and the lines, computed, are the expected text.
-use Rattle.std.proofs.Common.{◌≡◌, ℕ, Bool, List, [], ◌∷◌, ◌++◌, map, codes, filter, get_or, Ok, Err, Result, String, ◌∙◌, subst}
+use Rattle.std.proofs.Common.{◌≡◌, ℕ, Bool, List, [], ◌∷◌, ◌++◌, map, codes, filter, get_or, Ok, Err, Result, String, ◌∙◌, subst, ap}
 use Rattle.std.specs.List.{AllByRecursion, flat_map, range_with_len}
 use Rattle.std.specs.declared.alloc.Global.{Global}
 use Rattle.std.proofs.lemmas.Bool.Decides.{Decides-like, same_from_decides}
@@ -8,7 +8,6 @@ use Rattle.order.specs.Orders.{IsTheOrder}
 use Rattle.order.specs.Answers.{is_superior, devices}
 use Rattle.order.proofs.Exactness.{order_same}
 use Rattle.order.proofs.Tables.{is_superior_tests}
-use Rattle.refusal.specs.Lines.{line}
 use Rattle.boardfile.specs.declared.device.Device.{Device}
 use Rattle.boardfile.specs.declared.fault.BoardFault.{BoardFault}
 use Rattle.boardfile.specs.declared.fault.ReadFault.{ReadFault}
@@ -24,7 +23,7 @@ use Rattle.board.proofs.Exactness.{exact, exactly}
 use Rattle.listing.specs.declared.printing.ListFault.{ListFault}
 use Rattle.listing.specs.declared.printing.ListFault.TheVariants.{Refused as IsRefused, Memory as NoMemory}
 use Rattle.listing.specs.Lines.{lines}
-use Rattle.listing.specs.Printing.{Prints}
+use Rattle.listing.specs.Printing.{Lists, printed as bytes_printed}
 use Rattle.cases.specs.Cases.{Case, Contents, reads, refuses, HasRead, HasOrder, HasPrinted, Holds, IsChecked, IsPrinted}
 use Rattle.cases.proofs.Outcome.{superior, superior_tests, outcome, IsRight, outcome_right}
 
@@ -75,7 +74,7 @@ module _ (bs : List ℕ) where
     lines_printed : (board : Board) → Says bs board → lines board ≡ printed order
     lines_printed board says = λ i. listed (says.devices i) (λ s d. same_superior board says s d i) (says.superiors.count i) (same_order _ says.order i)
 
-    reads_printed : (r : Result (String Global) ListFault) → Prints bs r → HasPrinted (printed order) r
+    reads_printed : (r : Result (String Global) ListFault) → Lists bs r → HasPrinted (printed order) r
     reads_printed (Ok shown) (board, good, says, is) = is ∙ lines_printed board says
     reads_printed (Err (IsRefused refusal)) (f, refused, is) = refused_wrong bs f refused right.0
     reads_printed (Err NoMemory) good = tt
@@ -90,7 +89,7 @@ module _ (bs : List ℕ) where
     refuses_checked : (r : Result Order BoardFault) → Checks bs r → r ≡ Err fault
     refuses_checked r answer = ((exactly bs r answer).refuses fault).1 refused
 
-    refuses_printed : (r : Result (String Global) ListFault) → Prints bs r → r ≡ Err (IsRefused (told fault))
+    refuses_printed : (r : Result (String Global) ListFault) → Lists bs r → r ≡ Err (IsRefused (told fault))
     refuses_printed (Ok shown) (board, good, says, is) = absurd (refused_wrong bs fault refused good)
     refuses_printed (Err (IsRefused refusal)) (f, so, is) = rw (is, refused_once bs f fault so refused)
     refuses_printed (Err NoMemory) good = absurd (refused_wrong bs fault refused good)
@@ -100,7 +99,7 @@ module _ (bs : List ℕ) where
 -- what is computed for a case is what is expected
 abbrev pub Passes : Case → Type 0
 Passes (reads bytes expected shown) = (outcome bytes ≡ Ok expected.order) × (said bytes expected.order ≡ expected) × (printed bytes expected.order ≡ shown)
-Passes (refuses bytes fault shown) = (outcome bytes ≡ Err fault) × (line (told fault) ≡ shown)
+Passes (refuses bytes fault shown) = (outcome bytes ≡ Err fault) × (bytes_printed (Err (IsRefused (told fault))) ≡ shown)
 
 pub holds : (c : Case) → Passes c → Holds c
 holds (reads bytes expected shown) (e, same, _) = λ r answer. subst (λ c. HasRead c r) same (reads_holds bytes expected.order e r answer)
@@ -112,7 +111,7 @@ is_checked (refuses bytes fault shown) (e, _) = refuses_checked bytes fault e
 
 pub is_printed : (c : Case) → Passes c → IsPrinted c
 is_printed (reads bytes expected shown) (e, _, same) = λ r answer. subst (λ t. HasPrinted t r) same (reads_printed bytes expected.order e r answer)
-is_printed (refuses bytes fault shown) (e, same) = (refuses_printed bytes fault e, same)
+is_printed (refuses bytes fault shown) (e, same) = λ r answer. let is = refuses_printed bytes fault e r answer in (is, ap bytes_printed is ∙ same)
 
 pub of_each : {P Q : Case → Type 0} → ((c : Case) → P c → Q c) → (cs : List Case) → AllByRecursion P cs → AllByRecursion Q cs
 of_each f [] all = tt

@@ -16,10 +16,9 @@ use Rattle.boardfile.specs.Contents.{text}
 use Rattle.boardfile.specs.Faults.{told}
 use Rattle.board.specs.Checking.{Checks}
 use Rattle.board.specs.Reading.{Reads}
-use Rattle.refusal.specs.Lines.{line}
 use Rattle.listing.specs.declared.printing.ListFault.{ListFault}
 use Rattle.listing.specs.declared.printing.ListFault.TheVariants.{Refused as IsRefused, Memory as NoMemory}
-use Rattle.listing.specs.Printing.{Prints}
+use Rattle.listing.specs.Printing.{Lists, printed}
 use Rattle.cases.specs.Boards.{three_devices, four_devices, short, later_edition, no_devices, near_table, same_names, self_link, circle}
 
 -- ---- what a board has
@@ -78,10 +77,10 @@ HasPrinted expected (Ok text) = string_bytes text ≡ expected
 HasPrinted expected (Err (IsRefused refusal)) = ⊥
 HasPrinted expected (Err NoMemory) = Unit {0}
 
--- whatever answer the contract of `list` allows is the expected one, and the line of a refusal is the expected one
+-- whatever answer the contract of `list` allows is the expected one, and the bytes that are printed of a refusal are the expected ones
 abbrev pub IsPrinted : Case → Type 0
-IsPrinted (reads bytes expected printed) = (r : Result (String Global) ListFault) → Prints bytes r → HasPrinted printed r
-IsPrinted (refuses bytes fault printed) = ((r : Result (String Global) ListFault) → Prints bytes r → r ≡ Err (IsRefused (told fault))) × (line (told fault) ≡ printed)
+IsPrinted (reads bytes expected shown) = (r : Result (String Global) ListFault) → Lists bytes r → HasPrinted shown r
+IsPrinted (refuses bytes fault shown) = (r : Result (String Global) ListFault) → Lists bytes r → (r ≡ Err (IsRefused (told fault))) × (printed r ≡ shown)
 
 abbrev pub cases : List Case
 cases =
@@ -105,13 +104,13 @@ cases =
       order = 1 ∷ 3 ∷ 0 ∷ 2 ∷ [];
     })
     (codes "b\nd\na d\nc a\n")
-    ∷ refuses short Size (codes "! 3 1 0")
-    ∷ refuses later_edition (Mark 16) (codes "! 3 2 16")
-    ∷ refuses no_devices (Counts 16) (codes "! 3 3 16")
-    ∷ refuses near_table (Tables 16) (codes "! 3 4 16")
-    ∷ refuses same_names (DeviceRecord 16) (codes "! 3 5 16")
-    ∷ refuses self_link (LinkRecord 32) (codes "! 3 6 32")
-    ∷ refuses circle (Circle 0) (codes "! 3 7 0")
+    ∷ refuses short Size (codes "! 3 1 0\n")
+    ∷ refuses later_edition (Mark 16) (codes "! 3 2 16\n")
+    ∷ refuses no_devices (Counts 16) (codes "! 3 3 16\n")
+    ∷ refuses near_table (Tables 16) (codes "! 3 4 16\n")
+    ∷ refuses same_names (DeviceRecord 16) (codes "! 3 5 16\n")
+    ∷ refuses self_link (LinkRecord 32) (codes "! 3 6 32\n")
+    ∷ refuses circle (Circle 0) (codes "! 3 7 0\n")
     ∷ []
 
 -- the board file of each case

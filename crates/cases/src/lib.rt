@@ -53,7 +53,7 @@ const SELF_LINK: [u8; 52] = *b"\
     \x01\x01\0\0\
     SLPB\x01\x02\x00\x00\x01\x00\0\0\x24\x00\x04\x00";
 
-// 1 and 2 are consumers of each other, and 0 is one of 2: refused at device 0.
+// 1 and 2 are consumers of each other, and 0 is a consumer of 2: refused with 7, at device 0.
 const CIRCLE: [u8; 76] = *b"\
     a\0\0\0\0\0\0\0\xff\0\0\0\x00\x00\x00\x00\
     b\0\0\0\0\0\0\0\xff\0\0\0\x00\x00\x00\x00\

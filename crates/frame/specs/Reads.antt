@@ -29,6 +29,6 @@ pub record FrameOf (bs : List ℕ) (frame : Frame) : Type 0 where
   pub devices : DevicesOf bs frame.devices.start frame.devices.records.now
   pub links : LinksOf bs frame.links.start frame.links.records.now
 
--- the bytes are refused so, and for their trailer
+-- the bytes are refused so, and for their length or their trailer
 abbrev pub Unframed : List ℕ → BoardFault → Type 0
 Unframed bs fault = Refused bs fault × (Framed bs → ⊥)

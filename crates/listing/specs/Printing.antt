@@ -22,15 +22,15 @@ abbrev pub OfRefusal : List ℕ → Refusal → Type 0
 OfRefusal bs refusal = (fault : BoardFault) × RefusedAs bs fault × (refusal ≡ told fault)
 
 -- the answer, by cases; want of memory comes only where the bytes keep all rules
-abbrev pub Prints : List ℕ → Result (String Global) ListFault → Type 0
-Prints bs (Ok text) = OfBoard bs (string_bytes text)
-Prints bs (Err (Refused refusal)) = OfRefusal bs refusal
-Prints bs (Err Memory) = Right bs
+abbrev pub Lists : List ℕ → Result (String Global) ListFault → Type 0
+Lists bs (Ok text) = OfBoard bs (string_bytes text)
+Lists bs (Err (Refused refusal)) = OfRefusal bs refusal
+Lists bs (Err Memory) = Right bs
 
 -- a fault of the reader, handed on
-abbrev pub listed : ReadFault → ListFault
-listed (BrokenBy fault) = Refused (told fault)
-listed NoMemory = Memory
+abbrev pub handed_on : ReadFault → ListFault
+handed_on (BrokenBy fault) = Refused (told fault)
+handed_on NoMemory = Memory
 
 -- the bytes that are printed: the lines, or the line of the refusal with its end
 abbrev pub printed : Result (String Global) ListFault → List ℕ

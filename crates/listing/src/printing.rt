@@ -2,7 +2,7 @@
 ghost use Rattle.std.specs.Prelude.{◌≡◌, OnOk};
 ghost use Rattle.std.specs.Io.KnownBytes.{Appends};
 ghost use Rattle.listing.specs.declared.printing.ListFault.TheVariants.{Memory};
-ghost use Rattle.listing.specs.Printing.{Prints, listed, printed};
+ghost use Rattle.listing.specs.Printing.{Lists, handed_on, printed};
 
 use crate::lines::order_lines;
 use board::board::Board;
@@ -16,12 +16,12 @@ use std::io;
 pub enum ListFault {
     // The file is refused.
     Refused { refusal: Refusal },
-    // It is a board, but there is no memory for it or for the text.
+    // There is no memory for the board or for its text.
     Memory,
 }
 
 impl From<ReadFault> for ListFault {
-    ghost from_gives = { λ fault r. r ≡ listed fault };
+    ghost from_gives = { λ fault r. r ≡ handed_on fault };
 
     fn from(fault: ReadFault) -> ListFault {
         match fault {
@@ -43,7 +43,7 @@ impl From<AllocError> for ListFault {
 
 // The lines of the board that the bytes of a board file describe, or their refusal.
 pub fn list(heap: Global, bytes: &[u8]) -> Result<String, ListFault>
-    ensures { Prints bytes.now result }
+    ensures { Lists bytes.now result }
 {
     let board = Board::read(heap, bytes)?;
     Ok(order_lines(heap, &board)?)

@@ -55,7 +55,7 @@ pub record Exact (table : Superiors) (r : Result Order Circle) : Type 0 where
   pub gives : (order : List ℕ) → (answered r ≡ Ok order) ↔ IsTheOrder table.count (Superior table) order
   -- a device is named exactly where there is no order, and it is the least one from which a chain of superiors never ends
   pub names : (d : ℕ) → (answered r ≡ Err d) ↔ Circular table.count (Superior table) d
-  -- there is none as soon as some chain of superiors never ends
+  -- there is no order as soon as some chain of superiors never ends
   pub ends : (d : ℕ) → Endless (Superior table) d → Orderable table.count (Superior table) → ⊥
   -- to take the least at each place is enough: no device is left out or taken twice, and superiors come first
   pub suffices : (order : List ℕ) → length order ≡ table.count → LeastFirst table.count (Superior table) order → Precedes table.count (Superior table) order

@@ -8,7 +8,7 @@ use std::io::{self, ErrorKind, Read};
 use std::process::ExitCode;
 
 // The bytes of a file, of a longer one just enough to show that it is longer than a board file; none where it cannot be
-// read. Want of memory says nothing of the file, and is a fault of its own.
+// read. Where there is no memory for them, nothing is known of the file, and that is answered.
 fn bytes_of(rt: &HostRuntime, path: &str) -> Result<Vec<u8>, ListFault> {
     let mut bytes = Vec::new(rt.alloc());
     let most = MOST_BYTES as u64 + 1;

@@ -3,7 +3,8 @@ use Rattle.std.proofs.lemmas.Iterator.{items_from_collect, YieldsList-from_slice
 use Rattle.std.proofs.lemmas.Iterator.Consumers.{YieldsList-from_filter_map}
 use Rattle.std.proofs.lemmas.Result.{IfOk-weaker}
 use Rattle.boardfile.specs.Layout.{link_count}
-use Rattle.boardfile.specs.Contents.{link_in, link_of}
+use Rattle.boardfile.specs.Contents.{link_of}
+use Rattle.board.specs.Records.{link_in}
 use Rattle.board.proofs.Known.{links_known}
 use Rattle.board.proofs.Seen.{link_seen}
 use Rattle.board.proofs.Filling.{all_described}
