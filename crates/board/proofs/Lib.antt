@@ -5,3 +5,4 @@ pub mod Seen
 pub mod Firsts
 pub mod Gathering
 pub mod Exactness
+pub mod Cut

@@ -2,6 +2,7 @@
 #![tactic(auto)]
 
 pub mod board;
+pub mod file;
 mod parts;
 mod records;
 mod wiring;

@@ -1,6 +1,7 @@
 // The worked boards, read by the running reader, and orders of tables that no file describes.
 use crate::worked_board;
 use board::board::Board;
+use board::file::read_file;
 use boardfile::fault::{BoardFault, ReadFault};
 use order::ordering::Circle;
 use order::superiors::{NoDevice, Superiors};
@@ -69,5 +70,14 @@ fn the_device_below_a_circle_is_named(rt: HostRuntime) -> Result<(), Fail> {
     assert!(rt; table.add(4, 3).is_ok());
     assert!(rt; table.add(4, 1).is_ok());
     assert_eq!(rt; table.order().err(), Some(Circle { device: 1 }));
+    Ok(())
+}
+
+#[test]
+fn a_file_is_not_cut_to_the_limit(rt: HostRuntime) -> Result<(), Fail> {
+    let long = [0; 4_200];
+    assert!(rt; read_file(rt.alloc(), &long[..4_096])?.len() == 4_096);
+    assert!(rt; read_file(rt.alloc(), &long[..4_097])?.len() == 4_097);
+    assert!(rt; read_file(rt.alloc(), long.as_slice())?.len() == 4_097);
     Ok(())
 }

@@ -1,20 +1,17 @@
 // sleeporder: prints the order in which the devices of the board in `board.bin` go to sleep, or why the file is refused.
 #![tactic(auto)]
 
-use frame::limits::MOST_BYTES;
+use board::file::read_file;
 use listing::printing::{ListFault, list, write_listed};
 use std::fs::File;
-use std::io::{self, ErrorKind, Read};
+use std::io::{self, ErrorKind};
 use std::process::ExitCode;
 
-// The bytes of a file, of a longer one just enough to show that it is longer than a board file; none where it cannot be
-// read. Where there is no memory for them, nothing is known of the file, and that is answered.
+// The bytes of a file, or none where it cannot be read. Where there is no memory for them, nothing is known of the file, and
+// that is answered.
 fn bytes_of(rt: &HostRuntime, path: &str) -> Result<Vec<u8>, ListFault> {
-    let mut bytes = Vec::new(rt.alloc());
-    let most = MOST_BYTES as u64 + 1;
-    let read = File::open(rt, path).and_then(|file| file.take(most).read_to_end(&mut bytes));
-    match read {
-        Ok(_) => Ok(bytes),
+    match File::open(rt, path).and_then(|file| read_file(rt.alloc(), file)) {
+        Ok(bytes) => Ok(bytes),
         Err(e) if e.kind() == ErrorKind::OutOfMemory => Err(ListFault::Memory),
         Err(_) => Ok(Vec::new(rt.alloc())),
     }
