@@ -1,0 +1,5 @@
+pub mod Faults
+pub mod Meaning
+pub mod Laws
+pub mod Makings
+pub mod Runs

@@ -1,0 +1,59 @@
+// Calls of any bank, made one after another.
+ghost use Rattle.std.specs.Prelude.{◌≡◌, ◌++◌, IfOk, OnOk, OnErr};
+ghost use Rattle.bank.specs.Runs.{answer_to, after, answers_to, after_all};
+
+use crate::bank::Bank;
+use crate::call::{Call, Reply};
+use crate::fault::BankFault;
+use std::alloc::{AllocError, Global};
+
+impl Call {
+    // Makes this call of a bank.
+    pub fn make<B: Bank>(self, bank: &mut B) -> Result<Reply, BankFault>
+        ensures answer { B.kind.sound (B.model bank.old) → result ≡ answer_to (B.kind.devices (B.model bank.old)) self }
+        ensures after { B.kind.sound (B.model bank.old) → B.model bank.new ≡ after B.kind (B.model bank.old) self }
+        ensures sound { B.kind.sound (B.model bank.old) → B.kind.sound (B.model bank.new) }
+    {
+        Ok(match self {
+            Call::Count => Reply::Counted {
+                count: bank.count(),
+            },
+            Call::Look { device } => {
+                let (level, word, hindrance) = bank.look(device)?;
+                Reply::Seen {
+                    level,
+                    word,
+                    hindrance,
+                }
+            }
+            Call::Put { device, word } => {
+                bank.put(device, word)?;
+                Reply::Done
+            }
+            Call::Lower { device } => Reply::Code {
+                code: bank.lower(device)?,
+            },
+            Call::Raise { device } => Reply::Code {
+                code: bank.raise(device)?,
+            },
+        })
+    }
+}
+
+// Makes calls of a bank in their order. Where there is no memory for the answers, none is made.
+pub fn play<B: Bank>(
+    heap: Global,
+    bank: &mut B,
+    calls: &[Call],
+) -> Result<Vec<Result<Reply, BankFault>>, AllocError>
+    ensures answers { IfOk result (λ answers. B.kind.sound (B.model bank.old) → answers.items ≡ answers_to B.kind (B.model bank.old) calls.now) }
+    ensures after { OnOk result (B.kind.sound (B.model bank.old) → B.model bank.new ≡ after_all B.kind (B.model bank.old) calls.now) }
+    ensures sound { B.kind.sound (B.model bank.old) → B.kind.sound (B.model bank.new) }
+    ensures none { OnErr result (B.model bank.new ≡ B.model bank.old) }
+{
+    let mut answers = Vec::with_capacity(heap, calls.len())?;
+    for call in calls {
+        answers.push(call.make(bank)).unwrap();
+    }
+    Ok(answers)
+}

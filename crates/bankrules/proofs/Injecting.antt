@@ -1,0 +1,141 @@
+-- Injected errnos: the words are those below, and the laws are kept within any limit.
+use Rattle.std.proofs.Common.{◌≡◌, ℕ, Bool, true, false, zero, suc, cond, eqb, ltb, ◌+◌, ◌-◌, ◌*◌, ◌<◌, ◌≤◌, ◌^◌, List, [], ◌∷◌, length, map, get_or, All, Result, refl, sym, ap, ◌∙◌, ◌⊎◌, inl, inr, arith}
+use Rattle.std.specs.Prelude.{ℤ}
+use Rattle.std.proofs.lemmas.List.{get_or_past}
+use Rattle.std.proofs.lemmas.Bool.{cases_lt}
+use Rattle.std.proofs.lemmas.List.Elements.{All-from_get_or, All-map, All-weaker}
+use Rattle.std.specs.List.{range_with_len}
+use Rattle.bank.specs.declared.fault.BankFault.{BankFault}
+use Rattle.bank.specs.Meaning.{Device, absent, device, pile, piles, level, word, hindrance, deepest, seen, put_answer, lower_answer, raise_answer, is_lowered, is_raised, is_put, IsPile, AreDevices, most_devices}
+use Rattle.bank.specs.Laws.{GainsWord, LosesWord, HoldsWord, Kind, Laws}
+use Rattle.bank.proofs.Changes.{put_parts, lowered_parts, raised_parts}
+use Rattle.bankrules.specs.Injections.{cell_into_next, overlaid, injected, all_cells, AreCells, injector_kind}
+
+module _ (cells : List ℕ) where
+  injected_count_from : (d : ℕ) (ds : List Device) → length (injected cells d ds) ≡ length ds
+  injected_count_from d [] = refl
+  injected_count_from d (x ∷ xs) = ap suc (injected_count_from (suc d) xs)
+
+  injected_piles_from : (d : ℕ) (ds : List Device) → piles (injected cells d ds) ≡ piles ds
+  injected_piles_from d [] = refl
+  injected_piles_from d (x ∷ xs) = ap (λ (ps : List (List ℕ)). x.words ∷ ps) (injected_piles_from (suc d) xs)
+
+  injected_device_from : (d : ℕ) (ds : List Device) (i : ℕ) → i < length ds → get_or (injected cells d ds) i absent ≡ overlaid cells (d + i) (get_or ds i absent)
+  injected_device_from d (x ∷ xs) zero h = ap (λ n. overlaid cells n x) (omega arith)
+  injected_device_from d (x ∷ xs) (suc i) h = injected_device_from (suc d) xs i (omega arith) ∙ ap (λ n. overlaid cells n (get_or xs i absent)) (omega arith)
+  injected_device_from d [] i h = elim h [ ]
+
+  injected_pile_from : (d : ℕ) (ds : List Device) (i : ℕ) → pile (injected cells d ds) i ≡ pile ds i
+  injected_pile_from d [] i = refl
+  injected_pile_from d (x ∷ xs) zero = refl
+  injected_pile_from d (x ∷ xs) (suc i) = injected_pile_from (suc d) xs i
+
+  module _ (ds : List Device) where
+    pub injected_count : length (injected cells 0 ds) ≡ length ds
+    injected_count = injected_count_from 0 ds
+
+    pub injected_piles : piles (injected cells 0 ds) ≡ piles ds
+    injected_piles = injected_piles_from 0 ds
+
+    pub injected_device : (d : ℕ) → d < length ds → device (injected cells 0 ds) d ≡ overlaid cells d (device ds d)
+    injected_device d h = injected_device_from 0 ds d h ∙ ap (λ n. overlaid cells n (device ds d)) (omega arith)
+
+    pub injected_pile : (d : ℕ) → pile (injected cells 0 ds) d ≡ pile ds d
+    injected_pile d = injected_pile_from 0 ds d
+
+    -- puts and raisings are answered and made as below
+    pub injected_put_answer : (d : ℕ) → put_answer (injected cells 0 ds) d ≡ put_answer ds d
+    injected_put_answer d = rw (injected_count, injected_pile d) refl
+
+    pub injected_is_put : (d : ℕ) → is_put (injected cells 0 ds) d ≡ is_put ds d
+    injected_is_put d = rw (injected_count, injected_pile d) refl
+
+    pub injected_raise_answer : (d : ℕ) → raise_answer (injected cells 0 ds) d ≡ raise_answer ds d
+    injected_raise_answer d = rw (injected_count, injected_pile d) refl
+
+    pub injected_is_raised : (d : ℕ) → is_raised (injected cells 0 ds) d ≡ is_raised ds d
+    injected_is_raised d = rw (injected_count, injected_pile d) refl
+
+    -- nothing hinders where nothing does below and the cell is 0
+    injected_free : (d : ℕ) → is_lowered (injected cells 0 ds) d ≡ true → is_lowered ds d ≡ true
+    injected_free d t =
+        let parts = lowered_parts (injected cells 0 ds) d t in
+        let inside : d < length ds = omega (arith, parts.0, injected_count) in
+        let this = injected_device d inside in
+        let l : level (injected cells 0 ds) d ≡ level ds d = ap (λ (p : List ℕ). length p - 1) (injected_pile d) in
+        let low : level ds d < deepest = omega (arith, parts.1, l) in
+        let free : (overlaid cells d (device ds d)).hindrance ≡ 0 = ap (λ (x : Device). x.hindrance) (sym this) ∙ parts.2 in
+        grind arith
+
+cell_fits : (limit : ℕ) (cells : List ℕ) (d l : ℕ) → AreCells limit cells → cell_into_next cells d l ≤ limit
+cell_fits limit cells d l are = go (cases_lt (4 * d + l) (length cells))
+  where
+    go : ((4 * d + l) < length cells) ⊎ (length cells ≤ (4 * d + l)) → cell_into_next cells d l ≤ limit
+    go (inl inside) = let h = are (4 * d + l) 0 inside in grind arith
+    go (inr past) = let h = get_or_past cells (4 * d + l) 0 past in grind arith
+
+overlaid_fits : (limit : ℕ) (cells : List ℕ) (d : ℕ) (x : Device) → AreCells limit cells → x.hindrance ≤ limit → (overlaid cells d x).hindrance ≤ limit
+overlaid_fits limit cells d x are h = let c = cell_fits limit cells d (length x.words - 1) are in grind arith
+
+module _ {M : Type 0} (limit : ℕ) (below : Kind M) (laws : Laws limit below) where
+  abbrev shown : M × List ℕ → List Device
+  shown m = injected m.1 0 (below.devices m.0)
+
+  injected_means : (m : M × List ℕ) → below.sound m.0 × AreCells limit m.1 → AreDevices limit (shown m)
+  injected_means m s =
+      let under = laws.means m.0 s.0 in
+      let ds = below.devices m.0 in
+      let n = injected_count m.1 ds in
+      record {
+        few = omega (arith, n, under.few);
+        words = rw (injected_piles m.1 ds) under.words;
+        errnos = All-from_get_or (λ (x : Device). x.hindrance ≤ limit) (injected m.1 0 ds) absent
+            (λ d h. let inside : d < length ds = omega (arith, n) in rw (injected_device m.1 ds d inside) (overlaid_fits limit m.1 d (device ds d) s.1 (under.errnos d absent inside)));
+      }
+
+  injected_lowering : (m : M × List ℕ) (d : ℕ) → below.sound m.0 × AreCells limit m.1 → is_lowered (shown m) d ≡ true
+      → (below.sound (below.lowered m.0 d) × AreCells limit m.1) × GainsWord (shown m) d (shown (below.lowered m.0 d, m.1))
+  injected_lowering m d s t =
+      let under = laws.lowering m.0 d s.0 (injected_free m.1 (below.devices m.0) d t) in
+      ((under.0, s.1), (under.1.0, rw (injected_piles m.1 (below.devices (below.lowered m.0 d)), injected_piles m.1 (below.devices m.0), injected_pile m.1 (below.devices m.0) d) under.1.1))
+
+  injected_raising : (m : M × List ℕ) (d : ℕ) → below.sound m.0 × AreCells limit m.1 → is_raised (shown m) d ≡ true
+      → (below.sound (below.raised m.0 d) × AreCells limit m.1) × LosesWord (shown m) d (shown (below.raised m.0 d, m.1))
+  injected_raising m d s t =
+      let under = laws.raising m.0 d s.0 (sym (injected_is_raised m.1 (below.devices m.0) d) ∙ t) in
+      ((under.0, s.1), rw (injected_piles m.1 (below.devices (below.raised m.0 d)), injected_piles m.1 (below.devices m.0), injected_pile m.1 (below.devices m.0) d) under.1)
+
+  injected_writing : (m : M × List ℕ) (d w : ℕ) → below.sound m.0 × AreCells limit m.1 → w < 2 ^ 32 → is_put (shown m) d ≡ true
+      → (below.sound (below.written m.0 d w) × AreCells limit m.1) × HoldsWord (shown m) d w (shown (below.written m.0 d w, m.1))
+  injected_writing m d w s f t =
+      let under = laws.writing m.0 d w s.0 f (sym (injected_is_put m.1 (below.devices m.0) d) ∙ t) in
+      ((under.0, s.1), rw (injected_piles m.1 (below.devices (below.written m.0 d w)), injected_piles m.1 (below.devices m.0)) under.1)
+
+  pub injector_lawful : Laws limit (injector_kind limit below)
+  injector_lawful = record { means = injected_means; lowering = injected_lowering; raising = injected_raising; writing = injected_writing }
+
+-- where all cells are 0 nothing is injected
+overlaid_idle : (cells : List ℕ) → AreCells 0 cells → (d : ℕ) (x : Device) → overlaid cells d x ≡ x
+overlaid_idle cells zeros d x = let c = cell_fits 0 cells d (length x.words - 1) zeros in grind arith
+
+injected_idle_from : (cells : List ℕ) → AreCells 0 cells → (d : ℕ) (ds : List Device) → injected cells d ds ≡ ds
+injected_idle_from cells zeros d [] = refl
+injected_idle_from cells zeros d (x ∷ xs) = ap (λ (y : Device). y ∷ injected cells (suc d) xs) (overlaid_idle cells zeros d x) ∙ ap (λ (ys : List Device). x ∷ ys) (injected_idle_from cells zeros (suc d) xs)
+
+pub injected_idle : (cells : List ℕ) → AreCells 0 cells → (ds : List Device) → injected cells 0 ds ≡ ds
+injected_idle cells zeros ds = injected_idle_from cells zeros 0 ds
+
+-- each of all cells is one that is given, or 0
+all_cells_by : (P : ℕ → Type 0) (given : List ℕ) → P 0 → All P given → All P (all_cells given)
+all_cells_by P given none each = All-map P (λ i. get_or given i 0) (range_with_len 0 (4 * most_devices)) (λ k d h. by_place (cases_lt _ (length given)))
+  where
+    by_place : {i : ℕ} → (i < length given) ⊎ (length given ≤ i) → P (get_or given i 0)
+    by_place {i} (inl h) = each i 0 h
+    by_place {i} (inr h) = rw (get_or_past given i 0 h) none
+
+pub all_cells_fit : (limit : ℕ) (given : List ℕ) → All (λ c. c ≤ limit) given → AreCells limit (all_cells given)
+all_cells_fit limit given each = all_cells_by (λ c. c ≤ limit) given (omega arith) each
+
+-- where none of the cells that are given hinders, nothing is injected
+pub given_idle : (given : List ℕ) (ds : List Device) → All (λ c. c ≡ 0) given → injected (all_cells given) 0 ds ≡ ds
+given_idle given ds zeros = injected_idle (all_cells given) (all_cells_by (λ c. c ≤ 0) given (omega arith) (All-weaker (λ c. c ≡ 0) (λ c. c ≤ 0) (λ c e. omega arith) given zeros)) ds

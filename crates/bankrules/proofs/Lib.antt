@@ -1,0 +1,4 @@
+pub mod Ruling
+pub mod Telling
+pub mod Injecting
+pub mod Pairing

@@ -1,0 +1,40 @@
+-- Errnos that are injected over the hindrances of another bank.
+use Rattle.std.specs.Prelude.{◌≡◌, ℕ, suc, ◌+◌, ◌-◌, ◌*◌, ◌≤◌, ◌==◌, nat_lt, if◌then◌else◌, List, [], ◌∷◌, length, map, slice_index_or, All}
+use Rattle.std.specs.List.{range_with_len}
+use Rattle.bank.specs.Laws.{Kind}
+use Rattle.bank.specs.Meaning.{Device, deepest, most_devices}
+
+-- Cells are a list of four for each device, one for each of the levels 1 to 4. The cell of device d for level l + 1; there is none
+-- past the deepest level, and one that is missing counts as 0
+abbrev pub cell_into_next : List ℕ → ℕ → ℕ → ℕ
+cell_into_next cells d l = if nat_lt l deepest then slice_index_or cells (4 * d + l) 0 else 0
+
+-- a cell that is not zero takes the place of what hinders below
+abbrev pub overlaid : List ℕ → ℕ → Device → Device
+overlaid cells d x =
+    let cell = cell_into_next cells d (length x.words - 1) in
+    record { words = x.words; hindrance = if cell == 0 then x.hindrance else cell }
+
+-- these devices, of which the first has number d
+abbrev pub injected : List ℕ → ℕ → List Device → List Device
+injected cells d [] = []
+injected cells d (x ∷ xs) = overlaid cells d x ∷ injected cells (suc d) xs
+
+-- the cells of 64 devices: those that are given, and 0 where none is
+abbrev pub all_cells : List ℕ → List ℕ
+all_cells given = map (λ i. slice_index_or given i 0) (range_with_len 0 (4 * most_devices))
+
+-- no cell is above the limit
+abbrev pub AreCells : ℕ → List ℕ → Type 0
+AreCells limit cells = All (λ c. c ≤ limit) cells
+
+-- the kind of an injector on a bank, with errnos up to the limit in its cells
+abbrev pub injector_kind : {M : Type 0} → ℕ → Kind M → Kind (M × List ℕ)
+injector_kind limit below =
+    record {
+      devices = λ m. injected m.1 0 (below.devices m.0);
+      lowered = λ m d. (below.lowered m.0 d, m.1);
+      raised = λ m d. (below.raised m.0 d, m.1);
+      written = λ m d w. (below.written m.0 d w, m.1);
+      sound = λ m. below.sound m.0 × AreCells limit m.1;
+    }

@@ -1,0 +1,105 @@
+// Errnos that are injected over another bank.
+ghost use Rattle.std.specs.Prelude.{◌≡◌, ◌<◌, ◌≤◌, ◌+◌, ◌++◌, length, slice_index_or, List, ℕ, All};
+ghost use Rattle.bank.specs.Makings.{IsMade};
+ghost use Rattle.bank.specs.Meaning.{greatest_errno, deepest};
+ghost use Rattle.bankrules.specs.Injections.{cell_into_next, injected, all_cells as all_cells_of, injector_kind};
+ghost use Rattle.bankrules.proofs.Injecting.{injector_lawful};
+
+use crate::ruled::code_of;
+use bank::bank::Bank;
+use bank::fault::BankFault;
+
+// A bank with a cell for each device and level 1 to 4. One that is not zero is the errno of a device at the level before it,
+// whatever hinders it below.
+#[derive(Drop)]
+pub struct Injector<B: Bank> {
+    bank: B,
+    cells: [u8; 256],
+}
+
+// The cell at a place, 0 where none is given.
+fn cell_at(cells: &[u8], place: usize) -> u8
+    ensures { result ≡ slice_index_or cells.now place 0 }
+{
+    cells.get(place).copied().unwrap_or(0)
+}
+
+// The cells of 64 devices.
+fn all_cells(given: &[u8]) -> [u8; 256]
+    ensures { result ≡ all_cells_of given.now }
+{
+    let mut cells = [0; 256];
+    for place in 0..256 {
+        cells[place] = cell_at(given, place);
+    }
+    cells
+}
+
+impl<B: Bank> Injector<B> {
+    // Byte 4 * d + p - 1 is the cell of device d for level p. Cells that are missing are 0, and any past those of 64 devices are
+    // ignored.
+    pub fn new(bank: B, cells: &[u8]) -> Injector<B>
+        ensures bank { result.bank ≡ bank }
+        ensures made { B.kind.sound (B.model bank) → IsMade ⟦<Injector<B> as Bank>⟧ (B.model bank, all_cells_of cells.now) result }
+        ensures idle { All (λ c. c ≡ 0) cells.now → (m : B.Model) → (injector_kind greatest_errno B.kind).devices (m, all_cells_of cells.now) ≡ B.kind.devices m }
+    {
+        Injector {
+            bank,
+            cells: all_cells(cells),
+        }
+    }
+
+    // The errno in the cell of a device for the level after this one; none where it is 0, and past the deepest level.
+    fn cell(&self, device: u8, level: u8) -> u8
+        ensures { result ≡ cell_into_next self.now.cells device level }
+    {
+        if level >= 4 {
+            return 0;
+        }
+        let place = 4 * usize::from(device) + usize::from(level);
+        cell_at(&self.cells, place)
+    }
+}
+
+impl<B: Bank> Bank for Injector<B> {
+    ghost Model = { B.Model × List ℕ };
+
+    ghost model = { λ injector. (B.model injector.bank, injector.cells) };
+
+    ghost kind = { injector_kind greatest_errno B.kind };
+
+    #[tactic(auto, using(bankrules::proofs::Injecting::injected_count))]
+    fn count(&self) -> u8 {
+        self.bank.count()
+    }
+
+    #[tactic(auto, using(bankrules::proofs::Injecting::injected_count, bankrules::proofs::Injecting::injected_device))]
+    fn look(&self, device: u8) -> Result<(u8, u32, u8), BankFault> {
+        let (level, word, hindrance) = self.bank.look(device)?;
+        match self.cell(device, level) {
+            0 => Ok((level, word, hindrance)),
+            errno => Ok((level, word, errno)),
+        }
+    }
+
+    #[tactic(auto, using(bankrules::proofs::Injecting::injected_put_answer, bankrules::proofs::Injecting::injected_is_put))]
+    fn put(&mut self, device: u8, word: u32) -> Result<(), BankFault> {
+        Ok(self.bank.put(device, word)?)
+    }
+
+    #[tactic(auto, using(bankrules::proofs::Injecting::injected_count, bankrules::proofs::Injecting::injected_device))]
+    fn lower(&mut self, device: u8) -> Result<i16, BankFault> {
+        let (level, _, _) = self.bank.look(device)?;
+        match self.cell(device, level) {
+            0 => Ok(self.bank.lower(device)?),
+            errno => Ok(code_of(errno)),
+        }
+    }
+
+    #[tactic(auto, using(bankrules::proofs::Injecting::injected_raise_answer, bankrules::proofs::Injecting::injected_is_raised))]
+    fn raise(&mut self, device: u8) -> Result<i16, BankFault> {
+        Ok(self.bank.raise(device)?)
+    }
+
+    ghost lawful = { injector_lawful greatest_errno B.kind B.lawful };
+}

@@ -1,0 +1,45 @@
+// Devices that stand in for a part that nobody has chosen yet.
+ghost use Rattle.std.specs.Prelude.{length};
+ghost use Rattle.bank.specs.Makings.{Makes};
+ghost use Rattle.bankrules.specs.Rules.{each_with_one};
+ghost use Rattle.bankrules.specs.Quiet.{quiet_hinders, quiet_adds, quiet_word};
+ghost use Rattle.bankrules.proofs.Telling.{quiet_errnos, quiet_tells};
+
+use crate::rule::Rule;
+use crate::ruled::Ruled;
+use bank::bank::Bank;
+use bank::fault::BankFault;
+use bankrules::standing::Standing;
+
+// The rule of devices that stand in.
+pub enum Quiet {}
+
+impl Rule for Quiet {
+    ghost hinders = { quiet_hinders };
+
+    ghost adds = { quiet_adds };
+
+    ghost word_at = { quiet_word };
+
+    fn hindrance(_standing: Standing) -> u8 {
+        0
+    }
+
+    fn added(_level: u8, word: u32) -> u32 {
+        word
+    }
+
+    ghost errnos = { quiet_errnos };
+
+    ghost tells = { quiet_tells };
+}
+
+// A bank of such devices.
+pub type QuietBank = Ruled<Quiet>;
+
+// A quiet device for each word, at level 0.
+pub fn quiet_bank(words: &[u32]) -> Result<QuietBank, BankFault>
+    ensures { Makes ⟦<QuietBank as Bank>⟧ (each_with_one words.now) (length words.now) result }
+{
+    Ruled::new(words)
+}
