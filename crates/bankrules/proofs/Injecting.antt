@@ -3,13 +3,12 @@ use Rattle.std.proofs.Common.{◌≡◌, ℕ, Bool, true, false, zero, suc, cond
 use Rattle.std.specs.Prelude.{ℤ}
 use Rattle.std.proofs.lemmas.List.{get_or_past}
 use Rattle.std.proofs.lemmas.Bool.{cases_lt}
-use Rattle.std.proofs.lemmas.List.Elements.{All-from_get_or, All-map, All-weaker}
-use Rattle.std.specs.List.{range_with_len}
+use Rattle.std.proofs.lemmas.List.Elements.{All-from_get_or, All-weaker}
 use Rattle.bank.specs.declared.fault.BankFault.{BankFault}
-use Rattle.bank.specs.Meaning.{Device, absent, device, pile, piles, level, word, hindrance, deepest, seen, put_answer, lower_answer, raise_answer, is_lowered, is_raised, is_put, IsPile, AreDevices, most_devices}
+use Rattle.bank.specs.Meaning.{greatest_errno, Device, absent, device, pile, piles, level, word, hindrance, deepest, seen, put_answer, lower_answer, raise_answer, is_lowered, is_raised, is_put, IsPile, AreDevices, most_devices}
 use Rattle.bank.specs.Laws.{GainsWord, LosesWord, HoldsWord, Kind, Laws}
 use Rattle.bank.proofs.Changes.{put_parts, lowered_parts, raised_parts}
-use Rattle.bankrules.specs.Injections.{cell_into_next, overlaid, injected, all_cells, AreCells, injector_kind}
+use Rattle.bankrules.specs.Injections.{cell_into_next, overlaid, injected, AreCells, injector_kind}
 
 module _ (cells : List ℕ) where
   injected_count_from : (d : ℕ) (ds : List Device) → length (injected cells d ds) ≡ length ds
@@ -125,17 +124,10 @@ injected_idle_from cells zeros d (x ∷ xs) = ap (λ (y : Device). y ∷ injecte
 pub injected_idle : (cells : List ℕ) → AreCells 0 cells → (ds : List Device) → injected cells 0 ds ≡ ds
 injected_idle cells zeros ds = injected_idle_from cells zeros 0 ds
 
--- each of all cells is one that is given, or 0
-all_cells_by : (P : ℕ → Type 0) (given : List ℕ) → P 0 → All P given → All P (all_cells given)
-all_cells_by P given none each = All-map P (λ i. get_or given i 0) (range_with_len 0 (4 * most_devices)) (λ k d h. by_place (cases_lt _ (length given)))
-  where
-    by_place : {i : ℕ} → (i < length given) ⊎ (length given ≤ i) → P (get_or given i 0)
-    by_place {i} (inl h) = each i 0 h
-    by_place {i} (inr h) = rw (get_or_past given i 0 h) none
+-- where none of the cells hinders, nothing is injected
+pub idle_cells : (cells : List ℕ) (ds : List Device) → All (λ c. c ≡ 0) cells → injected cells 0 ds ≡ ds
+idle_cells cells ds zeros = injected_idle cells (All-weaker (λ c. c ≡ 0) (λ c. c ≤ 0) (λ c e. omega arith) cells zeros) ds
 
-pub all_cells_fit : (limit : ℕ) (given : List ℕ) → All (λ c. c ≤ limit) given → AreCells limit (all_cells given)
-all_cells_fit limit given each = all_cells_by (λ c. c ≤ limit) given (omega arith) each
-
--- where none of the cells that are given hinders, nothing is injected
-pub given_idle : (given : List ℕ) (ds : List Device) → All (λ c. c ≡ 0) given → injected (all_cells given) 0 ds ≡ ds
-given_idle given ds zeros = injected_idle (all_cells given) (all_cells_by (λ c. c ≤ 0) given (omega arith) (All-weaker (λ c. c ≡ 0) (λ c. c ≤ 0) (λ c e. omega arith) given zeros)) ds
+-- bytes are within the greatest errno
+pub byte_cells : (cells : List ℕ) → ((i d : ℕ) → i < length cells → get_or cells i d < 256) → AreCells greatest_errno cells
+byte_cells cells bytes = λ k d h. let b = bytes k d h in omega arith

@@ -2,3 +2,4 @@ pub mod Ruling
 pub mod Telling
 pub mod Injecting
 pub mod Pairing
+pub mod Freeing

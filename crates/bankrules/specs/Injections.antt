@@ -1,6 +1,5 @@
 -- Errnos that are injected over the hindrances of another bank.
-use Rattle.std.specs.Prelude.{◌≡◌, ℕ, suc, ◌+◌, ◌-◌, ◌*◌, ◌≤◌, ◌==◌, nat_lt, if◌then◌else◌, List, [], ◌∷◌, length, map, slice_index_or, All}
-use Rattle.std.specs.List.{range_with_len}
+use Rattle.std.specs.Prelude.{◌≡◌, ℕ, suc, ◌+◌, ◌-◌, ◌*◌, ◌≤◌, ◌==◌, nat_lt, if◌then◌else◌, List, [], ◌∷◌, length, slice_index_or, All}
 use Rattle.bank.specs.Laws.{Kind}
 use Rattle.bank.specs.Meaning.{Device, deepest, most_devices}
 
@@ -19,10 +18,6 @@ overlaid cells d x =
 abbrev pub injected : List ℕ → ℕ → List Device → List Device
 injected cells d [] = []
 injected cells d (x ∷ xs) = overlaid cells d x ∷ injected cells (suc d) xs
-
--- the cells of 64 devices: those that are given, and 0 where none is
-abbrev pub all_cells : List ℕ → List ℕ
-all_cells given = map (λ i. slice_index_or given i 0) (range_with_len 0 (4 * most_devices))
 
 -- no cell is above the limit
 abbrev pub AreCells : ℕ → List ℕ → Type 0

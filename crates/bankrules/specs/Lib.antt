@@ -4,3 +4,4 @@ pub mod Bus
 pub mod Quiet
 pub mod Pairs
 pub mod Injections
+pub mod Free

@@ -1,4 +1,5 @@
 // What the banks of a board do, as rules over lists of words, and that they keep the laws of a bank.
 #![tactic(auto)]
 
+pub mod choice;
 pub mod standing;

@@ -9,8 +9,9 @@ use crate::register::BUSY;
 use crate::rule::Rule;
 use crate::ruled::Ruled;
 use bank::bank::Bank;
-use bank::fault::BankFault;
+use bank::fault::MakeFault;
 use bankrules::standing::Standing;
+use std::alloc::Global;
 
 // EIO.
 const UNREACHABLE: u8 = 5;
@@ -61,9 +62,9 @@ pub type BusBank = Ruled<Bus>;
 
 #[tactic(auto, using(bankrules::proofs::Telling::members_held))]
 // A bus device for each word, at level 0.
-pub fn bus_bank(words: &[u32]) -> Result<BusBank, BankFault>
+pub fn bus_bank(heap: Global, words: &[u32]) -> Result<BusBank, MakeFault>
     ensures made { Makes ⟦<BusBank as Bank>⟧ (each_with_one words.now) (length words.now) result }
     ensures held { MembersHeld }
 {
-    Ruled::new(words)
+    Ruled::new(heap, words)
 }

@@ -2,7 +2,7 @@
 ghost use Rattle.std.specs.Prelude.{◌≡◌, ◌<◌, ◌≤◌, ◌+◌, ◌++◌, length, slice_index_or, List, ℕ, All};
 ghost use Rattle.bank.specs.Makings.{IsMade};
 ghost use Rattle.bank.specs.Meaning.{greatest_errno, deepest};
-ghost use Rattle.bankrules.specs.Injections.{cell_into_next, injected, all_cells as all_cells_of, injector_kind};
+ghost use Rattle.bankrules.specs.Injections.{cell_into_next, injected, injector_kind};
 ghost use Rattle.bankrules.proofs.Injecting.{injector_lawful};
 
 use crate::ruled::code_of;
@@ -14,7 +14,7 @@ use bank::fault::BankFault;
 #[derive(Drop)]
 pub struct Injector<B: Bank> {
     bank: B,
-    cells: [u8; 256],
+    cells: Vec<u8>,
 }
 
 // The cell at a place, 0 where none is given.
@@ -24,34 +24,19 @@ fn cell_at(cells: &[u8], place: usize) -> u8
     cells.get(place).copied().unwrap_or(0)
 }
 
-// The cells of 64 devices.
-fn all_cells(given: &[u8]) -> [u8; 256]
-    ensures { result ≡ all_cells_of given.now }
-{
-    let mut cells = [0; 256];
-    for place in 0..256 {
-        cells[place] = cell_at(given, place);
-    }
-    cells
-}
-
 impl<B: Bank> Injector<B> {
-    // Byte 4 * d + p - 1 is the cell of device d for level p. Cells that are missing are 0, and any past those of 64 devices are
-    // ignored.
-    pub fn new(bank: B, cells: &[u8]) -> Injector<B>
+    // Byte 4 * d + p - 1 is the cell of device d for level p. Cells that are missing count as 0.
+    pub fn new(bank: B, cells: Vec<u8>) -> Injector<B>
         ensures bank { result.bank ≡ bank }
-        ensures made { B.kind.sound (B.model bank) → IsMade ⟦<Injector<B> as Bank>⟧ (B.model bank, all_cells_of cells.now) result }
-        ensures idle { All (λ c. c ≡ 0) cells.now → (m : B.Model) → (injector_kind greatest_errno B.kind).devices (m, all_cells_of cells.now) ≡ B.kind.devices m }
+        ensures made { B.kind.sound (B.model bank) → IsMade ⟦<Injector<B> as Bank>⟧ (B.model bank, cells.items) result }
+        ensures idle { All (λ c. c ≡ 0) cells.items → (m : B.Model) → (injector_kind greatest_errno B.kind).devices (m, cells.items) ≡ B.kind.devices m }
     {
-        Injector {
-            bank,
-            cells: all_cells(cells),
-        }
+        Injector { bank, cells }
     }
 
     // The errno in the cell of a device for the level after this one; none where it is 0, and past the deepest level.
     fn cell(&self, device: u8, level: u8) -> u8
-        ensures { result ≡ cell_into_next self.now.cells device level }
+        ensures { result ≡ cell_into_next self.now.cells.items device level }
     {
         if level >= 4 {
             return 0;
@@ -64,7 +49,7 @@ impl<B: Bank> Injector<B> {
 impl<B: Bank> Bank for Injector<B> {
     ghost Model = { B.Model × List ℕ };
 
-    ghost model = { λ injector. (B.model injector.bank, injector.cells) };
+    ghost model = { λ injector. (B.model injector.bank, injector.cells.items) };
 
     ghost kind = { injector_kind greatest_errno B.kind };
 

@@ -8,8 +8,9 @@ ghost use Rattle.bankrules.proofs.Telling.{quiet_errnos, quiet_tells};
 use crate::rule::Rule;
 use crate::ruled::Ruled;
 use bank::bank::Bank;
-use bank::fault::BankFault;
+use bank::fault::MakeFault;
 use bankrules::standing::Standing;
+use std::alloc::Global;
 
 // The rule of devices that stand in.
 pub enum Quiet {}
@@ -38,8 +39,8 @@ impl Rule for Quiet {
 pub type QuietBank = Ruled<Quiet>;
 
 // A quiet device for each word, at level 0.
-pub fn quiet_bank(words: &[u32]) -> Result<QuietBank, BankFault>
+pub fn quiet_bank(heap: Global, words: &[u32]) -> Result<QuietBank, MakeFault>
     ensures { Makes ⟦<QuietBank as Bank>⟧ (each_with_one words.now) (length words.now) result }
 {
-    Ruled::new(words)
+    Ruled::new(heap, words)
 }

@@ -8,8 +8,9 @@ ghost use Rattle.bankrules.proofs.Telling.{register_errnos, register_tells};
 use crate::rule::Rule;
 use crate::ruled::Ruled;
 use bank::bank::Bank;
-use bank::fault::BankFault;
+use bank::fault::MakeFault;
 use bankrules::standing::Standing;
+use std::alloc::Global;
 
 // EBUSY.
 pub(crate) const BUSY: u8 = 16;
@@ -50,8 +51,8 @@ impl Rule for Register {
 pub type RegisterBank = Ruled<Register>;
 
 // A register device for each word, at level 0.
-pub fn register_bank(words: &[u32]) -> Result<RegisterBank, BankFault>
+pub fn register_bank(heap: Global, words: &[u32]) -> Result<RegisterBank, MakeFault>
     ensures { Makes ⟦<RegisterBank as Bank>⟧ (each_with_one words.now) (length words.now) result }
 {
-    Ruled::new(words)
+    Ruled::new(heap, words)
 }

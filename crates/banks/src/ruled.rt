@@ -14,7 +14,8 @@ use piles::piles::Piles;
 use crate::rule::Rule;
 use bankrules::standing::Standing;
 use bank::bank::Bank;
-use bank::fault::BankFault;
+use bank::fault::{BankFault, MakeFault};
+use std::alloc::Global;
 use std::marker::PhantomData;
 
 // The devices of a bank that keep to the rule R.
@@ -34,11 +35,11 @@ pub(crate) fn code_of(errno: u8) -> i16
 impl<R: Rule> Ruled<R> {
     // A device for each word, at level 0.
     #[tactic(auto, using(bankrules::proofs::Ruling::ruled_made))]
-    pub(crate) fn new(words: &[u32]) -> Result<Ruled<R>, BankFault>
+    pub(crate) fn new(heap: Global, words: &[u32]) -> Result<Ruled<R>, MakeFault>
         ensures { Makes ⟦<Ruled<R> as Bank>⟧ (each_with_one words.now) (length words.now) result }
     {
         Ok(Ruled {
-            piles: Piles::new(words)?,
+            piles: Piles::new(heap, words)?,
             rule: PhantomData,
         })
     }

@@ -1,15 +1,13 @@
 // The words of the devices of a bank.
 mod table;
 
-ghost use Rattle.std.specs.Prelude.{◌≡◌, ◌≤◌, length};
+ghost use Rattle.std.specs.Prelude.{◌≤◌, vec_len};
 
 use crate::pile::Pile;
 
 // The piles of at most 64 devices.
-#[derive(Clone, Copy)]
+#[derive(Drop)]
 pub struct Piles {
-    count: u8,
-    piles: [Pile; 64],
-    ghost few: { count ≤ 64 },
-    ghost long: { length piles ≡ 64 },
+    piles: Vec<Pile>,
+    ghost few: { vec_len piles ≤ 64 },
 }

@@ -1,37 +1,35 @@
 // The calls on a table of piles.
 ghost use Rattle.std.specs.Prelude.{◌≡◌, ◌<◌, ◌≤◌, [], ◌∷◌, length, map, set, slice_index_or, MatchResult};
-ghost use Rattle.bank.specs.declared.fault.BankFault.TheVariants.{NoDevice, TooMany as Many};
+ghost use Rattle.bank.specs.declared.fault.BankFault.TheVariants.{NoDevice};
 ghost use Rattle.piles.specs.Piles.{words_of};
-ghost use Rattle.piles.specs.Tables.{words_in};
+ghost use Rattle.piles.specs.Tables.{words_in, TableMade};
 
 use crate::pile::Pile;
 use crate::piles::Piles;
-use bank::fault::BankFault;
+use bank::fault::{BankFault, MakeFault};
+use std::alloc::Global;
 
 impl Piles {
     // A device for each word, at level 0.
     #[tactic(auto, using(crate::proofs::Rows::rows_more), unfolding(crate::specs::Tables::words_in))]
-    pub fn new(words: &[u32]) -> Result<Piles, BankFault>
-        ensures { MatchResult result (λ table. (length words.now ≤ 64) × (words_in table ≡ map (λ w. w ∷ []) words.now)) (λ fault. (fault ≡ Many) × (64 < length words.now)) }
+    pub fn new(heap: Global, words: &[u32]) -> Result<Piles, MakeFault>
+        ensures { TableMade words.now result }
     {
         if words.len() > 64 {
-            return Err(BankFault::TooMany);
+            return Err(MakeFault::from(BankFault::TooMany));
         }
-        let mut piles = [Pile::new(0); 64];
-        for (i, word) in words.iter().enumerate() {
-            piles[i] = Pile::new(*word);
+        let mut piles = Vec::with_capacity(heap, words.len())?;
+        for word in words {
+            piles.push(Pile::new(*word))?;
         }
-        Ok(Piles {
-            count: words.len() as u8,
-            piles,
-        })
+        Ok(Piles { piles })
     }
 
     #[tactic(auto, using(crate::proofs::Rows::row_count), unfolding(crate::specs::Tables::words_in))]
     pub fn count(&self) -> u8
         ensures { result ≡ length (words_in self.now) }
     {
-        self.count
+        self.piles.len() as u8
     }
 
     // The pile of a device.
@@ -39,10 +37,8 @@ impl Piles {
     pub fn pile(&self, device: u8) -> Result<Pile, BankFault>
         ensures { MatchResult result (λ pile. (device < length (words_in self.now)) × (words_of pile ≡ slice_index_or (words_in self.now) device [])) (λ fault. (length (words_in self.now) ≤ device) × (fault ≡ NoDevice device)) }
     {
-        if device >= self.count {
-            return Err(BankFault::NoDevice { device });
-        }
-        Ok(self.piles[usize::from(device)])
+        let pile = self.piles.get(usize::from(device));
+        Ok(*pile.ok_or(BankFault::NoDevice { device })?)
     }
 
     // Another pile for a device. Nothing changes where there is no such device.
@@ -50,8 +46,9 @@ impl Piles {
     pub fn replace(&mut self, device: u8, pile: Pile)
         ensures { words_in self.new ≡ set (words_in self.old) device (words_of pile) }
     {
-        if device < self.count {
-            self.piles[usize::from(device)] = pile;
+        let place = usize::from(device);
+        if place < self.piles.len() {
+            self.piles[place] = pile;
         }
     }
 }

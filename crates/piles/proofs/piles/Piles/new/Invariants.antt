@@ -1,10 +1,10 @@
-use Rattle.std.proofs.Common.{◌≡◌, ℕ, [], ◌∷◌, length, map, take}
+use Rattle.std.proofs.Common.{◌≡◌, ℕ, [], ◌∷◌, length, map, take, vec_len}
 use Rattle.piles.specs.Piles.{words_of}
 use Rattle.piles.proofs.piles.Piles.new.Given as goal
 
 -- the first devices have their words
-abbrev pub invariant-loop-i : goal.invariant-loop-i
-invariant-loop-i l = record {
-  long : length l.piles ≡ 64;
-  made : map words_of (take l.i l.piles) ≡ map (λ (w : ℕ). w ∷ []) (take l.i l.words);
+abbrev pub invariant-loop-word : goal.invariant-loop-word
+invariant-loop-word l = record {
+  count : vec_len l.piles ≡ l.word-index;
+  made : map words_of l.piles.items ≡ map (λ (w : ℕ). w ∷ []) (take l.word-index l.words);
 }

@@ -1,0 +1,4 @@
+// A bank for tests, whose choices come from outside.
+#![tactic(auto)]
+
+pub mod free;
