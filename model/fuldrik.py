@@ -20,7 +20,7 @@ NO_PARENT = 255
 
 
 class Refused(Exception):
-    """A file that cannot be obeyed: who refused, under which number, and where."""
+    """A call or a file that cannot be obeyed: who refused, under which number, and where."""
 
     def __init__(self, layer, number, place):
         super().__init__(layer, number, place)

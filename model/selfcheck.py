@@ -1,4 +1,4 @@
-"""Checks of the model: the documents' examples, and all small graphs by brute force."""
+"""Checks of the model: the documents' examples, all small graphs by brute force, and the banks (selfcheck_banks.py)."""
 
 import itertools
 import os
@@ -6,6 +6,7 @@ import tempfile
 
 import boards
 import fuldrik
+import selfcheck_banks
 import sleeporder
 from making import Draft, device, link, plain_devices, plain_links
 
@@ -133,6 +134,7 @@ def main():
     read = check_boards()
     print("ok: %d boards, %d of them read, %d bytes"
           % (len(boards.CASES), read, len(boards.boards_bytes())))
+    selfcheck_banks.main()
     print("ok")
 
 
