@@ -24,7 +24,7 @@ pub record Kind (M : Type 0) : Type 1 where
   pub raised : M → ℕ → M
   -- after a put of the word w for device d
   pub written : M → ℕ → ℕ → M
-  -- what a bank of this kind keeps: it holds once the bank is made, and each call leaves it so
+  -- what a bank of this kind keeps
   pub sound : M → Type 0
 
 -- what every kind keeps to, with hindrances up to the limit

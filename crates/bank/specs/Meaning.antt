@@ -1,5 +1,5 @@
 -- What a bank means: its devices, what each call answers, and which calls change something.
-use Rattle.std.specs.Prelude.{◌≡◌, ℕ, ◌+◌, ◌-◌, ◌<◌, ◌≤◌, ◌^◌, Bool, ◌&&◌, ◌==◌, nat_lt, if◌then◌else◌, List, [], ◌∷◌, length, map, slice_index_or, ℤ, pos, neg_ℤ, All, Ok, Err, Result}
+use Rattle.std.specs.Prelude.{ℕ, ◌+◌, ◌-◌, ◌<◌, ◌≤◌, ◌^◌, Bool, ◌&&◌, ◌==◌, nat_lt, if◌then◌else◌, List, [], length, map, slice_index_or, ℤ, pos, neg_ℤ, All, Ok, Err, Result}
 use Rattle.bank.specs.declared.fault.BankFault.{BankFault}
 use Rattle.bank.specs.declared.fault.BankFault.TheVariants.{NoDevice, WrongLevel}
 
@@ -91,6 +91,11 @@ greatest_errno = 255
 
 abbrev pub most_devices : ℕ
 most_devices = 64
+
+-- the piles of at most 64 devices
+pub record ArePiles (piles : List (List ℕ)) : Type 0 where
+  pub few : length piles ≤ most_devices
+  pub each : All IsPile piles
 
 -- at most 64 devices, each with a pile and a hindrance within the limit
 pub record AreDevices (limit : ℕ) (devices : List Device) : Type 0 where

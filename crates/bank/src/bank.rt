@@ -13,7 +13,7 @@ pub trait Bank {
     // What the answers of the bank depend on, as a value of the kind's own choice.
     ghost Model: { Type 0 };
 
-    // What this bank stands for.
+    // What a bank stands for.
     ghost model: { Self → Model };
 
     // What a bank of this kind shows, does and keeps.
@@ -21,29 +21,32 @@ pub trait Bank {
 
     // The number of devices.
     fn count(&self) -> u8
-        ensures { kind.sound (model self.now) → result ≡ length (kind.devices (model self.now)) };
+        ensures { result ≡ length (kind.devices (model self.now)) };
 
     // Level, working word and hindrance of a device. Nothing changes.
     fn look(&self, device: u8) -> Result<(u8, u32, u8), BankFault>
-        ensures { kind.sound (model self.now) → result ≡ seen (kind.devices (model self.now)) device };
+        ensures { result ≡ seen (kind.devices (model self.now)) device };
 
     // Another working word for a device at level 0. At another level nothing changes.
     fn put(&mut self, device: u8, word: u32) -> Result<(), BankFault>
-        ensures answer { kind.sound (model self.old) → result ≡ put_answer (kind.devices (model self.old)) device }
-        ensures after { kind.sound (model self.old) → model self.new ≡ (if is_put (kind.devices (model self.old)) device then kind.written (model self.old) device word else model self.old) };
+        ensures answer { result ≡ put_answer (kind.devices (model self.old)) device }
+        ensures after { model self.new ≡ (if is_put (kind.devices (model self.old)) device then kind.written (model self.old) device word else model self.old) };
 
     // One level deeper. The code is 0 where that is done, and otherwise the hindrance negated; then nothing changes. Nor does
     // anything at level 4, where the call is refused.
     fn lower(&mut self, device: u8) -> Result<i16, BankFault>
-        ensures answer { kind.sound (model self.old) → result ≡ lower_answer (kind.devices (model self.old)) device }
-        ensures after { kind.sound (model self.old) → model self.new ≡ (if is_lowered (kind.devices (model self.old)) device then kind.lowered (model self.old) device else model self.old) };
+        ensures answer { result ≡ lower_answer (kind.devices (model self.old)) device }
+        ensures after { model self.new ≡ (if is_lowered (kind.devices (model self.old)) device then kind.lowered (model self.old) device else model self.old) };
 
     // One level up; the code is 0. At level 0 nothing changes.
     fn raise(&mut self, device: u8) -> Result<i16, BankFault>
-        ensures answer { kind.sound (model self.old) → result ≡ raise_answer (kind.devices (model self.old)) device }
-        ensures after { kind.sound (model self.old) → model self.new ≡ (if is_raised (kind.devices (model self.old)) device then kind.raised (model self.old) device else model self.old) };
+        ensures answer { result ≡ raise_answer (kind.devices (model self.old)) device }
+        ensures after { model self.new ≡ (if is_raised (kind.devices (model self.old)) device then kind.raised (model self.old) device else model self.old) };
 
-    // What every bank keeps to: what a model shows are devices, a taken lowering adds one word to that device's pile, a raising
-    // takes one off, a put replaces the only one, and no other pile changes.
+    // Every bank of this type stands for a model that is sound, however the bank was come by.
+    ghost kept: { (bank : Self) → kind.sound (model bank) };
+
+    // What every kind keeps to: what a sound model shows are devices; a lowering that is taken adds one word to that device's pile,
+    // a raising takes one off, a put replaces the only one; no other pile changes, and the model stays sound.
     ghost lawful: { Laws greatest_errno kind };
 }

@@ -10,9 +10,8 @@ use std::alloc::{AllocError, Global};
 impl Call {
     // Makes this call of a bank.
     pub fn make<B: Bank>(self, bank: &mut B) -> Result<Reply, BankFault>
-        ensures answer { B.kind.sound (B.model bank.old) → result ≡ answer_to (B.kind.devices (B.model bank.old)) self }
-        ensures after { B.kind.sound (B.model bank.old) → B.model bank.new ≡ after B.kind (B.model bank.old) self }
-        ensures sound { B.kind.sound (B.model bank.old) → B.kind.sound (B.model bank.new) }
+        ensures answer { result ≡ answer_to (B.kind.devices (B.model bank.old)) self }
+        ensures after { B.model bank.new ≡ after B.kind (B.model bank.old) self }
     {
         Ok(match self {
             Call::Count => Reply::Counted {
@@ -46,9 +45,8 @@ pub fn play<B: Bank>(
     bank: &mut B,
     calls: &[Call],
 ) -> Result<Vec<Result<Reply, BankFault>>, AllocError>
-    ensures answers { IfOk result (λ answers. B.kind.sound (B.model bank.old) → answers.items ≡ answers_to B.kind (B.model bank.old) calls.now) }
-    ensures after { OnOk result (B.kind.sound (B.model bank.old) → B.model bank.new ≡ after_all B.kind (B.model bank.old) calls.now) }
-    ensures sound { B.kind.sound (B.model bank.old) → B.kind.sound (B.model bank.new) }
+    ensures answers { IfOk result (λ answers. answers.items ≡ answers_to B.kind (B.model bank.old) calls.now) }
+    ensures after { OnOk result (B.model bank.new ≡ after_all B.kind (B.model bank.old) calls.now) }
     ensures none { OnErr result (B.model bank.new ≡ B.model bank.old) }
 {
     let mut answers = Vec::with_capacity(heap, calls.len())?;

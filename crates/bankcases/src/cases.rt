@@ -27,11 +27,13 @@ fn print_call(rt: &HostRuntime, call: Call) -> anyhow::Result<()> {
 fn print_answer(rt: &HostRuntime, answer: Result<Reply, BankFault>) -> anyhow::Result<()> {
     match answer {
         Ok(Reply::Counted { count }) => println!(rt; " {count}")?,
-        Ok(Reply::Seen {
-            level,
-            word,
-            hindrance,
-        }) => println!(rt; " {level} {word} {hindrance}")?,
+        Ok(
+            Reply::Seen {
+                level,
+                word,
+                hindrance,
+            },
+        ) => println!(rt; " {level} {word} {hindrance}")?,
         Ok(Reply::Done) => println!(rt)?,
         Ok(Reply::Code { code }) => println!(rt; " {code}")?,
         Err(fault) => println!(rt; " {}", Refusal::from(fault))?,

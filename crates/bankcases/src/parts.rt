@@ -3,12 +3,12 @@ use anyhow::anyhow;
 use bank::bank::Bank;
 use bank::call::Call;
 use bank::fault::MakeFault;
-use bankrules::choice::Choice;
 use banks::bus::{BusBank, bus_bank};
 use banks::injector::Injector;
 use banks::pair::Pair;
 use banks::quiet::{QuietBank, quiet_bank};
 use banks::register::{RegisterBank, register_bank};
+use freebank::choice::Choice;
 use freebank::free::FreeBank;
 use std::alloc::Global;
 
@@ -59,13 +59,17 @@ impl<'a> Bytes<'a> {
         Ok(words)
     }
 
+    fn choice(&mut self) -> anyhow::Result<Choice> {
+        let word = self.word()?;
+        let hindrances = self.array::<64>()?;
+        Ok(Choice::new(word, &hindrances))
+    }
+
     // A count, and so many choices.
     fn choices(&mut self, heap: Global) -> anyhow::Result<Vec<Choice>> {
         let mut choices = Vec::new(heap);
         for _ in 0..self.byte()? {
-            let word = self.word()?;
-            let hindrances = self.array::<64>()?;
-            choices.push(Choice { word, hindrances })?;
+            choices.push(self.choice()?)?;
         }
         Ok(choices)
     }
@@ -147,7 +151,8 @@ impl Made for FreeBank {
     fn made(heap: Global, bytes: &mut Bytes) -> anyhow::Result<Result<Self, MakeFault>> {
         let words = bytes.words(heap)?;
         let hindrances = bytes.array::<64>()?;
+        let first = Choice::new(0, &hindrances);
         let choices = bytes.choices(heap)?;
-        Ok(FreeBank::new(heap, &words, hindrances, choices))
+        Ok(FreeBank::new(heap, &words, first, choices))
     }
 }

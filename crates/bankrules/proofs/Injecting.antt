@@ -1,13 +1,11 @@
 -- Injected errnos: the words are those below, and the laws are kept within any limit.
-use Rattle.std.proofs.Common.{◌≡◌, ℕ, Bool, true, false, zero, suc, cond, eqb, ltb, ◌+◌, ◌-◌, ◌*◌, ◌<◌, ◌≤◌, ◌^◌, List, [], ◌∷◌, length, map, get_or, All, Result, refl, sym, ap, ◌∙◌, ◌⊎◌, inl, inr, arith}
-use Rattle.std.specs.Prelude.{ℤ}
+use Rattle.std.proofs.Common.{◌≡◌, ℕ, true, zero, suc, ◌+◌, ◌-◌, ◌*◌, ◌<◌, ◌≤◌, ◌^◌, List, [], ◌∷◌, length, get_or, All, refl, sym, ap, ◌∙◌, ◌⊎◌, inl, inr, arith}
 use Rattle.std.proofs.lemmas.List.{get_or_past}
 use Rattle.std.proofs.lemmas.Bool.{cases_lt}
 use Rattle.std.proofs.lemmas.List.Elements.{All-from_get_or, All-weaker}
-use Rattle.bank.specs.declared.fault.BankFault.{BankFault}
-use Rattle.bank.specs.Meaning.{greatest_errno, Device, absent, device, pile, piles, level, word, hindrance, deepest, seen, put_answer, lower_answer, raise_answer, is_lowered, is_raised, is_put, IsPile, AreDevices, most_devices}
+use Rattle.bank.specs.Meaning.{greatest_errno, Device, absent, device, pile, piles, level, deepest, put_answer, raise_answer, is_lowered, is_raised, is_put, AreDevices}
 use Rattle.bank.specs.Laws.{GainsWord, LosesWord, HoldsWord, Kind, Laws}
-use Rattle.bank.proofs.Changes.{put_parts, lowered_parts, raised_parts}
+use Rattle.bank.proofs.Changes.{lowered_parts}
 use Rattle.bankrules.specs.Injections.{cell_into_next, overlaid, injected, AreCells, injector_kind}
 
 module _ (cells : List ℕ) where

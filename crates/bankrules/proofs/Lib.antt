@@ -1,4 +1,5 @@
 pub mod Ruling
+pub mod Descents
 pub mod Telling
 pub mod Injecting
 pub mod Pairing

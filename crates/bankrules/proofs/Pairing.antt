@@ -1,11 +1,10 @@
 -- Two banks as one keep the laws.
-use Rattle.std.proofs.Common.{◌≡◌, ℕ, Bool, true, false, cond, ltb, ◌+◌, ◌-◌, ◌<◌, ◌≤◌, ◌^◌, List, [], ◌∷◌, ◌++◌, length, map, get_or, set, drop, refl, sym, ap, ◌∙◌, ◌⊎◌, inl, inr, arith, length-append, length-set}
+use Rattle.std.proofs.Common.{◌≡◌, ℕ, true, ◌-◌, ◌<◌, ◌≤◌, ◌^◌, List, [], ◌∷◌, ◌++◌, length, set, drop, refl, sym, ap, ◌∙◌, ◌⊎◌, inl, inr, arith, length-append, length-set}
 use Rattle.std.proofs.lemmas.List.{map-append, length-map, get_or_append_left, get_or-append_right, set-append_left, set-append_right}
 use Rattle.std.proofs.lemmas.List.Elements.{All-append}
-use Rattle.std.proofs.lemmas.Bool.{cases_lt, lt-ltb, le-ltb, cond-true, cond-false}
-use Rattle.bank.specs.Meaning.{Device, absent, device, pile, piles, level, hindrance, deepest, is_lowered, is_raised, is_put, IsPile, AreDevices, most_devices}
+use Rattle.std.proofs.lemmas.Bool.{cases_lt, lt-ltb, le-ltb}
+use Rattle.bank.specs.Meaning.{Device, absent, device, pile, piles, is_lowered, is_raised, is_put, IsPile, AreDevices}
 use Rattle.bank.specs.Laws.{GainsWord, LosesWord, HoldsWord, Kind, Laws}
-use Rattle.bank.proofs.Changes.{put_parts, lowered_parts, raised_parts}
 use Rattle.bankrules.specs.Pairs.{pair_kind}
 
 module _ (xs ys : List Device) (d : ℕ) where

@@ -1,5 +1,5 @@
 -- Devices that sit on a bus. Device 0 is its controller, the others are its members.
-use Rattle.std.specs.Prelude.{◌≡◌, ℕ, ◌%◌, ◌^◌, ◌<◌, ◌≤◌, Bool, false, not, ◌&&◌, ◌==◌, nat_lt, nat_le, if◌then◌else◌, List, length}
+use Rattle.std.specs.Prelude.{◌≡◌, ℕ, ◌%◌, ◌^◌, ◌<◌, ◌≤◌, Bool, false, not, ◌&&◌, ◌==◌, nat_lt, nat_le, if◌then◌else◌, List}
 use Rattle.bank.specs.Laws.{Kind}
 use Rattle.bank.specs.Meaning.{level, is_lowered}
 use Rattle.bankrules.specs.declared.standing.Standing.{Standing}
@@ -31,7 +31,7 @@ abbrev pub bus_word : ℕ → ℕ → ℕ
 bus_word first level = if nat_lt level 4 then first else 0
 
 abbrev pub bus_kind : Kind (List (List ℕ))
-bus_kind = ruled_kind bus_hinders bus_adds bus_word
+bus_kind = ruled_kind bus_hinders bus_adds
 
 -- once its controller has gone past it, no member goes deeper
 abbrev pub MembersHeld : Type 0

@@ -1,7 +1,7 @@
 -- Errnos that are injected over the hindrances of another bank.
-use Rattle.std.specs.Prelude.{◌≡◌, ℕ, suc, ◌+◌, ◌-◌, ◌*◌, ◌≤◌, ◌==◌, nat_lt, if◌then◌else◌, List, [], ◌∷◌, length, slice_index_or, All}
+use Rattle.std.specs.Prelude.{ℕ, suc, ◌+◌, ◌-◌, ◌*◌, ◌≤◌, ◌==◌, nat_lt, if◌then◌else◌, List, [], ◌∷◌, length, slice_index_or, All}
 use Rattle.bank.specs.Laws.{Kind}
-use Rattle.bank.specs.Meaning.{Device, deepest, most_devices}
+use Rattle.bank.specs.Meaning.{Device, deepest}
 
 -- Cells are a list of four for each device, one for each of the levels 1 to 4. The cell of device d for level l + 1; there is none
 -- past the deepest level, and one that is missing counts as 0

@@ -1,5 +1,5 @@
 -- Two banks as one: the devices of the left come first.
-use Rattle.std.specs.Prelude.{ℕ, ◌+◌, ◌-◌, ◌≤◌, ◌++◌, length, min, nat_lt, if◌then◌else◌, Ok, Err, Result}
+use Rattle.std.specs.Prelude.{ℕ, ◌+◌, ◌-◌, ◌≤◌, ◌++◌, length, min, nat_lt, if◌then◌else◌}
 use Rattle.bank.specs.Laws.{Kind}
 use Rattle.bank.specs.Meaning.{most_devices}
 use Rattle.bank.specs.declared.fault.BankFault.{BankFault}

@@ -17,4 +17,4 @@ abbrev pub quiet_word : ℕ → ℕ → ℕ
 quiet_word first level = first
 
 abbrev pub quiet_kind : Kind (List (List ℕ))
-quiet_kind = ruled_kind quiet_hinders quiet_adds quiet_word
+quiet_kind = ruled_kind quiet_hinders quiet_adds

@@ -36,4 +36,4 @@ register_word first level =
     else (if level == 3 then cleared first 24 else 0))
 
 abbrev pub register_kind : Kind (List (List ℕ))
-register_kind = ruled_kind register_hinders register_adds register_word
+register_kind = ruled_kind register_hinders register_adds

@@ -1,7 +1,11 @@
 -- Banks whose devices keep to a rule: what hinders a device, and which word a lowering adds.
-use Rattle.std.specs.Prelude.{◌≡◌, ℕ, suc, ◌-◌, ◌≤◌, ◌<◌, ◌^◌, zero, List, [], ◌∷◌, length, map, drop, set, slice_index_or, All}
+use Rattle.std.specs.Prelude.{◌≡◌, ℕ, suc, ◌-◌, ◌<◌, ◌^◌, zero, List, [], ◌∷◌, length, map, drop, set, slice_index_or, All}
 use Rattle.bank.specs.Laws.{Kind}
-use Rattle.bank.specs.Meaning.{Device, deepest, most_devices}
+use Rattle.bank.specs.Meaning.{Device, ArePiles}
+use Rattle.bank.specs.Runs.{after_all}
+use Rattle.bank.specs.declared.call.Call.{Call}
+use Rattle.bank.specs.declared.call.Call.TheVariants.{Count, Look, Put, Lower, Raise}
+use Rattle.std.specs.List.{AllByRecursion}
 use Rattle.bankrules.specs.declared.standing.Standing.{Standing}
 
 -- how device d of these piles stands
@@ -41,40 +45,40 @@ without_top piles d = set piles d (drop 1 (slice_index_or piles d []))
 abbrev pub with_only : List (List ℕ) → ℕ → ℕ → List (List ℕ)
 with_only piles d w = set piles d (w ∷ [])
 
--- ---- what these banks keep
-
--- the words of a device that has come down to a level from its first word, the newest first, where the first word alone tells
--- the word at each level
-abbrev pub descent : (ℕ → ℕ → ℕ) → ℕ → ℕ → List ℕ
-descent word_at first zero = word_at first 0 ∷ []
-descent word_at first (suc l) = word_at first (suc l) ∷ descent word_at first l
-
--- at each level the device holds the word that its first word tells
-pub record IsDescent (word_at : ℕ → ℕ → ℕ) (words : List ℕ) : Type 0 where
-  pub first : ℕ
-  pub fits : first < 2 ^ 32
-  pub level : ℕ
-  pub low : level ≤ deepest
-  pub words_are : words ≡ descent word_at first level
-
--- at most 64 devices, each of which has come down from its first word
-pub record ArePiles (word_at : ℕ → ℕ → ℕ) (piles : List (List ℕ)) : Type 0 where
-  pub few : length piles ≤ most_devices
-  pub each : All (IsDescent word_at) piles
-
--- the first word tells all words: at level 0 it is itself, and below it is what the rule adds. Words have 32 bits
-pub record Tells (word_at adds : ℕ → ℕ → ℕ) : Type 0 where
-  pub first : (w : ℕ) → word_at w 0 ≡ w
-  pub next : (w l : ℕ) → w < 2 ^ 32 → l < deepest → word_at w (suc l) ≡ adds l (word_at w l)
-  pub fits : (w l : ℕ) → w < 2 ^ 32 → word_at w l < 2 ^ 32
-
 -- the kind of a bank whose devices keep to a rule
-abbrev pub ruled_kind : (Standing → ℕ) → (ℕ → ℕ → ℕ) → (ℕ → ℕ → ℕ) → Kind (List (List ℕ))
-ruled_kind hinders adds word_at =
+abbrev pub ruled_kind : (Standing → ℕ) → (ℕ → ℕ → ℕ) → Kind (List (List ℕ))
+ruled_kind hinders adds =
     record {
       devices = devices_of hinders;
       lowered = with_word adds;
       raised = without_top;
       written = with_only;
-      sound = ArePiles word_at;
+      sound = ArePiles;
     }
+
+-- ---- where the first word tells the others
+
+-- the words of a device that has come down to a level from its first word, the newest first, where `word_at` tells the word at
+-- each level by the first word alone
+abbrev pub descent : (ℕ → ℕ → ℕ) → ℕ → ℕ → List ℕ
+descent word_at first zero = word_at first zero ∷ []
+descent word_at first (suc l) = word_at first (suc l) ∷ descent word_at first l
+
+pub record IsDescent (word_at : ℕ → ℕ → ℕ) (words : List ℕ) : Type 0 where
+  pub first : ℕ
+  pub fits : first < 2 ^ 32
+  pub level : ℕ
+  pub words_are : words ≡ descent word_at first level
+
+-- a word that is put has 32 bits
+abbrev pub FitsCall : Call → Type 0
+FitsCall Count = Unit {0}
+FitsCall (Look d) = Unit {0}
+FitsCall (Put d w) = w < 2 ^ 32
+FitsCall (Lower d) = Unit {0}
+FitsCall (Raise d) = Unit {0}
+
+-- whatever calls are made of a bank that is made of these words, at each of its levels each device holds the word that its first
+-- word tells
+abbrev pub FirstWordsTell : (ℕ → ℕ → ℕ) → Kind (List (List ℕ)) → List ℕ → Type 0
+FirstWordsTell word_at kind words = (calls : List Call) → AllByRecursion FitsCall calls → All (IsDescent word_at) (after_all kind (each_with_one words) calls)

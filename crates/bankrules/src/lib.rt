@@ -1,5 +1,4 @@
 // What the banks of a board do, as rules over lists of words, and that they keep the laws of a bank.
 #![tactic(auto)]
 
-pub mod choice;
 pub mod standing;

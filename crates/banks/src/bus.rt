@@ -1,9 +1,9 @@
 // Devices that sit on a bus, with device 0 as its controller.
 ghost use Rattle.std.specs.Prelude.{◌≡◌, length};
 ghost use Rattle.bank.specs.Makings.{Makes};
-ghost use Rattle.bankrules.specs.Rules.{each_with_one};
-ghost use Rattle.bankrules.specs.Bus.{passed, bus_hinders, bus_adds, bus_word, MembersHeld};
-ghost use Rattle.bankrules.proofs.Telling.{bus_errnos, bus_tells};
+ghost use Rattle.bankrules.specs.Rules.{each_with_one, FirstWordsTell};
+ghost use Rattle.bankrules.specs.Bus.{passed, bus_hinders, bus_adds, bus_kind, bus_word, MembersHeld};
+ghost use Rattle.bankrules.proofs.Telling.{bus_errnos, bus_words};
 
 use crate::register::BUSY;
 use crate::rule::Rule;
@@ -31,8 +31,6 @@ impl Rule for Bus {
 
     ghost adds = { bus_adds };
 
-    ghost word_at = { bus_word };
-
     fn hindrance(standing: Standing) -> u8 {
         if standing.device == 0 {
             0
@@ -54,7 +52,7 @@ impl Rule for Bus {
 
     ghost errnos = { bus_errnos };
 
-    ghost tells = { bus_tells };
+    ghost words = { bus_words };
 }
 
 // A bank of such devices.
@@ -64,6 +62,7 @@ pub type BusBank = Ruled<Bus>;
 // A bus device for each word, at level 0.
 pub fn bus_bank(heap: Global, words: &[u32]) -> Result<BusBank, MakeFault>
     ensures made { Makes ⟦<BusBank as Bank>⟧ (each_with_one words.now) (length words.now) result }
+    ensures told { FirstWordsTell bus_word bus_kind words.now }
     ensures held { MembersHeld }
 {
     Ruled::new(heap, words)

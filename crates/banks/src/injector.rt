@@ -1,8 +1,7 @@
 // Errnos that are injected over another bank.
 ghost use Rattle.std.specs.Prelude.{◌≡◌, ◌<◌, ◌≤◌, ◌+◌, ◌++◌, length, slice_index_or, List, ℕ, All};
-ghost use Rattle.bank.specs.Makings.{IsMade};
 ghost use Rattle.bank.specs.Meaning.{greatest_errno, deepest};
-ghost use Rattle.bankrules.specs.Injections.{cell_into_next, injected, injector_kind};
+ghost use Rattle.bankrules.specs.Injections.{cell_into_next, injector_kind, AreCells};
 ghost use Rattle.bankrules.proofs.Injecting.{injector_lawful};
 
 use crate::ruled::code_of;
@@ -15,6 +14,7 @@ use bank::fault::BankFault;
 pub struct Injector<B: Bank> {
     bank: B,
     cells: Vec<u8>,
+    ghost bytes: { AreCells greatest_errno cells.items },
 }
 
 // The cell at a place, 0 where none is given.
@@ -28,7 +28,7 @@ impl<B: Bank> Injector<B> {
     // Byte 4 * d + p - 1 is the cell of device d for level p. Cells that are missing count as 0.
     pub fn new(bank: B, cells: Vec<u8>) -> Injector<B>
         ensures bank { result.bank ≡ bank }
-        ensures made { B.kind.sound (B.model bank) → IsMade ⟦<Injector<B> as Bank>⟧ (B.model bank, cells.items) result }
+        ensures cells { result.cells.items ≡ cells.items }
         ensures idle { All (λ c. c ≡ 0) cells.items → (m : B.Model) → (injector_kind greatest_errno B.kind).devices (m, cells.items) ≡ B.kind.devices m }
     {
         Injector { bank, cells }
@@ -85,6 +85,8 @@ impl<B: Bank> Bank for Injector<B> {
     fn raise(&mut self, device: u8) -> Result<i16, BankFault> {
         Ok(self.bank.raise(device)?)
     }
+
+    ghost kept = { λ injector. (B.kept injector.bank, injector.bytes) };
 
     ghost lawful = { injector_lawful greatest_errno B.kind B.lawful };
 }

@@ -14,6 +14,7 @@ use bank::fault::BankFault;
 pub struct Pair<L: Bank, R: Bank> {
     left: L,
     right: R,
+    ghost few: { length (L.kind.devices (L.model left)) + length (R.kind.devices (R.model right)) ≤ most_devices },
 }
 
 // Two banks that are no pair, and why.
@@ -27,8 +28,7 @@ pub struct Unpaired<L: Bank, R: Bank> {
 impl<L: Bank, R: Bank> Pair<L, R> {
     // Refused where there are more than 64 devices; both banks are then handed back.
     pub fn new(left: L, right: R) -> Result<Pair<L, R>, Unpaired<L, R>>
-        ensures parts { MatchResult result (λ pair. (pair.left ≡ left) × (pair.right ≡ right)) (λ parts. (parts.left ≡ left) × (parts.right ≡ right) × (parts.fault ≡ Many)) }
-        ensures few { L.kind.sound (L.model left) → R.kind.sound (R.model right) → MatchResult result (λ pair. (pair_kind L.kind R.kind).sound (L.model left, R.model right)) (λ parts. most_devices < length (L.kind.devices (L.model left)) + length (R.kind.devices (R.model right))) }
+        ensures { MatchResult result (λ pair. (pair.left ≡ left) × (pair.right ≡ right) × (length (L.kind.devices (L.model left)) + length (R.kind.devices (R.model right)) ≤ most_devices)) (λ parts. (parts.left ≡ left) × (parts.right ≡ right) × (parts.fault ≡ Many) × (most_devices < length (L.kind.devices (L.model left)) + length (R.kind.devices (R.model right)))) }
     {
         let count = u16::from(left.count()) + u16::from(right.count());
         if count > 64 {
@@ -80,7 +80,11 @@ impl<L: Bank, R: Bank> Bank for Pair<L, R> {
         match device.checked_sub(before) {
             None => self.left.look(device),
             Some(device) => {
-                Ok(self.right.look(device).map_err(|fault| Behind { fault, before })?)
+                Ok(
+                    self.right
+                        .look(device)
+                        .map_err(|fault| Behind { fault, before })?,
+                )
             }
         }
     }
@@ -90,7 +94,11 @@ impl<L: Bank, R: Bank> Bank for Pair<L, R> {
         match device.checked_sub(before) {
             None => self.left.put(device, word),
             Some(device) => {
-                Ok(self.right.put(device, word).map_err(|fault| Behind { fault, before })?)
+                Ok(
+                    self.right
+                        .put(device, word)
+                        .map_err(|fault| Behind { fault, before })?,
+                )
             }
         }
     }
@@ -100,7 +108,11 @@ impl<L: Bank, R: Bank> Bank for Pair<L, R> {
         match device.checked_sub(before) {
             None => self.left.lower(device),
             Some(device) => {
-                Ok(self.right.lower(device).map_err(|fault| Behind { fault, before })?)
+                Ok(
+                    self.right
+                        .lower(device)
+                        .map_err(|fault| Behind { fault, before })?,
+                )
             }
         }
     }
@@ -110,10 +122,16 @@ impl<L: Bank, R: Bank> Bank for Pair<L, R> {
         match device.checked_sub(before) {
             None => self.left.raise(device),
             Some(device) => {
-                Ok(self.right.raise(device).map_err(|fault| Behind { fault, before })?)
+                Ok(
+                    self.right
+                        .raise(device)
+                        .map_err(|fault| Behind { fault, before })?,
+                )
             }
         }
     }
+
+    ghost kept = { λ pair. (L.kept pair.left, R.kept pair.right, pair.few) };
 
     ghost lawful = { pair_lawful greatest_errno L.kind R.kind L.lawful R.lawful };
 }

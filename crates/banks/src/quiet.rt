@@ -1,9 +1,9 @@
 // Devices that stand in for a part that nobody has chosen yet.
 ghost use Rattle.std.specs.Prelude.{length};
 ghost use Rattle.bank.specs.Makings.{Makes};
-ghost use Rattle.bankrules.specs.Rules.{each_with_one};
-ghost use Rattle.bankrules.specs.Quiet.{quiet_hinders, quiet_adds, quiet_word};
-ghost use Rattle.bankrules.proofs.Telling.{quiet_errnos, quiet_tells};
+ghost use Rattle.bankrules.specs.Rules.{each_with_one, FirstWordsTell};
+ghost use Rattle.bankrules.specs.Quiet.{quiet_hinders, quiet_adds, quiet_kind, quiet_word};
+ghost use Rattle.bankrules.proofs.Telling.{quiet_errnos, quiet_words};
 
 use crate::rule::Rule;
 use crate::ruled::Ruled;
@@ -20,8 +20,6 @@ impl Rule for Quiet {
 
     ghost adds = { quiet_adds };
 
-    ghost word_at = { quiet_word };
-
     fn hindrance(_standing: Standing) -> u8 {
         0
     }
@@ -32,7 +30,7 @@ impl Rule for Quiet {
 
     ghost errnos = { quiet_errnos };
 
-    ghost tells = { quiet_tells };
+    ghost words = { quiet_words };
 }
 
 // A bank of such devices.
@@ -40,7 +38,8 @@ pub type QuietBank = Ruled<Quiet>;
 
 // A quiet device for each word, at level 0.
 pub fn quiet_bank(heap: Global, words: &[u32]) -> Result<QuietBank, MakeFault>
-    ensures { Makes ⟦<QuietBank as Bank>⟧ (each_with_one words.now) (length words.now) result }
+    ensures made { Makes ⟦<QuietBank as Bank>⟧ (each_with_one words.now) (length words.now) result }
+    ensures told { FirstWordsTell quiet_word quiet_kind words.now }
 {
     Ruled::new(heap, words)
 }

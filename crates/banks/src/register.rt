@@ -1,9 +1,9 @@
 // Devices that sit in registers.
 ghost use Rattle.std.specs.Prelude.{length};
 ghost use Rattle.bank.specs.Makings.{Makes};
-ghost use Rattle.bankrules.specs.Rules.{each_with_one};
-ghost use Rattle.bankrules.specs.Register.{register_hinders, register_adds, register_word};
-ghost use Rattle.bankrules.proofs.Telling.{register_errnos, register_tells};
+ghost use Rattle.bankrules.specs.Rules.{each_with_one, FirstWordsTell};
+ghost use Rattle.bankrules.specs.Register.{register_hinders, register_adds, register_kind, register_word};
+ghost use Rattle.bankrules.proofs.Telling.{register_errnos, register_words};
 
 use crate::rule::Rule;
 use crate::ruled::Ruled;
@@ -22,8 +22,6 @@ impl Rule for Register {
     ghost hinders = { register_hinders };
 
     ghost adds = { register_adds };
-
-    ghost word_at = { register_word };
 
     fn hindrance(standing: Standing) -> u8 {
         if standing.level == 1 && standing.word >> 31 == 1 {
@@ -44,7 +42,7 @@ impl Rule for Register {
 
     ghost errnos = { register_errnos };
 
-    ghost tells = { register_tells };
+    ghost words = { register_words };
 }
 
 // A bank of such devices.
@@ -52,7 +50,8 @@ pub type RegisterBank = Ruled<Register>;
 
 // A register device for each word, at level 0.
 pub fn register_bank(heap: Global, words: &[u32]) -> Result<RegisterBank, MakeFault>
-    ensures { Makes ⟦<RegisterBank as Bank>⟧ (each_with_one words.now) (length words.now) result }
+    ensures made { Makes ⟦<RegisterBank as Bank>⟧ (each_with_one words.now) (length words.now) result }
+    ensures told { FirstWordsTell register_word register_kind words.now }
 {
     Ruled::new(heap, words)
 }

@@ -1,7 +1,6 @@
-ghost use Rattle.std.specs.Prelude.{◌≡◌, ℕ, ◌≤◌};
+ghost use Rattle.std.specs.Prelude.{◌≡◌, ℕ, ◌<◌, ◌≤◌, ◌^◌};
 ghost use Rattle.bank.specs.Meaning.{greatest_errno};
 ghost use Rattle.bankrules.specs.declared.standing.Standing.{Standing};
-ghost use Rattle.bankrules.specs.Rules.{Tells};
 
 use bankrules::standing::Standing;
 
@@ -13,9 +12,6 @@ pub trait Rule {
     // The word that a lowering adds, by the level that the device leaves and its working word.
     ghost adds: { ℕ → ℕ → ℕ };
 
-    // The word that a device holds at a level, by its first word alone.
-    ghost word_at: { ℕ → ℕ → ℕ };
-
     fn hindrance(standing: Standing) -> u8
         ensures { result ≡ hinders standing };
 
@@ -24,5 +20,5 @@ pub trait Rule {
 
     ghost errnos: { (s : Standing) → hinders s ≤ greatest_errno };
 
-    ghost tells: { Tells word_at adds };
+    ghost words: { (level word : ℕ) → word < 2 ^ 32 → adds level word < 2 ^ 32 };
 }

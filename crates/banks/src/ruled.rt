@@ -4,17 +4,17 @@ ghost use Rattle.bank.specs.declared.fault.BankFault.TheVariants.{NoDevice, TooM
 ghost use Rattle.piles.specs.Piles.{words_of};
 ghost use Rattle.piles.specs.Tables.{words_in};
 ghost use Rattle.bankrules.specs.Rules.{standing as standing_of, each_with_one, ruled_kind};
-
 ghost use Rattle.bank.specs.Makings.{Makes};
 ghost use Rattle.bank.specs.Meaning.{greatest_errno};
 ghost use Rattle.bankrules.proofs.Ruling.{ruled_lawful};
+ghost use Rattle.piles.proofs.Rows.{table_is};
 
-use piles::pile::Pile;
-use piles::piles::Piles;
 use crate::rule::Rule;
-use bankrules::standing::Standing;
 use bank::bank::Bank;
 use bank::fault::{BankFault, MakeFault};
+use bankrules::standing::Standing;
+use piles::pile::Pile;
+use piles::piles::Piles;
 use std::alloc::Global;
 use std::marker::PhantomData;
 
@@ -34,7 +34,6 @@ pub(crate) fn code_of(errno: u8) -> i16
 
 impl<R: Rule> Ruled<R> {
     // A device for each word, at level 0.
-    #[tactic(auto, using(bankrules::proofs::Ruling::ruled_made))]
     pub(crate) fn new(heap: Global, words: &[u32]) -> Result<Ruled<R>, MakeFault>
         ensures { Makes ⟦<Ruled<R> as Bank>⟧ (each_with_one words.now) (length words.now) result }
     {
@@ -74,7 +73,7 @@ impl<R: Rule> Bank for Ruled<R> {
 
     ghost model = { λ bank. words_in bank.piles };
 
-    ghost kind = { ruled_kind R.hinders R.adds R.word_at };
+    ghost kind = { ruled_kind R.hinders R.adds };
 
     #[tactic(auto, using(bankrules::proofs::Ruling::ruled_count))]
     fn count(&self) -> u8 {
@@ -99,9 +98,7 @@ impl<R: Rule> Bank for Ruled<R> {
     fn lower(&mut self, device: u8) -> Result<i16, BankFault> {
         let (pile, standing) = self.find(device)?;
         let added = R::added(standing.level, standing.word);
-        let lowered = pile
-            .pushed(added)
-            .ok_or(BankFault::WrongLevel { device })?;
+        let lowered = pile.pushed(added).ok_or(BankFault::WrongLevel { device })?;
         let hindrance = R::hindrance(standing);
         if hindrance > 0 {
             return Ok(code_of(hindrance));
@@ -118,5 +115,7 @@ impl<R: Rule> Bank for Ruled<R> {
         Ok(0)
     }
 
-    ghost lawful = { ruled_lawful R.word_at R.adds R.tells greatest_errno R.hinders R.errnos };
+    ghost kept = { λ bank. table_is bank.piles };
+
+    ghost lawful = { ruled_lawful greatest_errno R.hinders R.adds R.errnos R.words };
 }

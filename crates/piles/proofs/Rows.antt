@@ -1,6 +1,12 @@
 -- A table of piles as the lists of their words.
-use Rattle.std.proofs.Common.{◌≡◌, ℕ, ◌+◌, ◌<◌, ◌≤◌, List, [], ◌∷◌, ◌++◌, map, length, take, set, get_or, refl, sym, ap, ◌∙◌, arith}
+use Rattle.std.proofs.Common.{◌≡◌, ℕ, ◌+◌, ◌<◌, ◌≤◌, List, [], ◌∷◌, ◌++◌, map, length, take, set, get_or, sym, ap, ◌∙◌, arith}
 use Rattle.std.proofs.lemmas.List.{length-map, get_or-map, set_past, map-set, map_more, map_push}
+use Rattle.std.proofs.lemmas.List.Elements.{All-map}
+use Rattle.bank.specs.Meaning.{IsPile, ArePiles}
+use Rattle.piles.specs.declared.piles.Piles.{Piles}
+use Rattle.piles.specs.Piles.{words_of}
+use Rattle.piles.specs.Tables.{words_in}
+use Rattle.piles.proofs.Stacks.{pile_is}
 
 module _ {X : Type 0} (f : X → List ℕ) where
   pub row_count : (rows : List X) → length (map f rows) ≡ length rows
@@ -21,3 +27,12 @@ module _ {X : Type 0} (f : X → List ℕ) where
   rows_more rows words i w x k e s so =
       map_push f rows x ∙ (ap (λ (r : List ℕ). map f rows ++ r ∷ []) (s ∙ ap (λ (v : ℕ). v ∷ []) e)
       ∙ (ap (λ (rs : List (List ℕ)). rs ++ (get_or words i w ∷ []) ∷ []) so ∙ sym (map_more (λ (v : ℕ). v ∷ []) words i w k)))
+
+-- what a table holds are the piles of at most 64 devices
+pub table_is : (table : Piles) → ArePiles (words_in table)
+unfolding words_in
+table_is table =
+    record {
+      few = omega (arith, row_count words_of table.piles.items, table.few, table.piles.ok.0);
+      each = All-map IsPile words_of table.piles.items (λ k d h. pile_is (get_or table.piles.items k d));
+    }

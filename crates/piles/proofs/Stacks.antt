@@ -1,6 +1,10 @@
 -- A pile, as the front of a table turned round.
-use Rattle.std.proofs.Common.{◌≡◌, ℕ, ◌+◌, ◌-◌, ◌<◌, ◌≤◌, List, [], ◌∷◌, ◌++◌, length, reverse, take, drop, set, get_or, refl, sym, ap, ◌∙◌, arith, length-take}
-use Rattle.std.proofs.lemmas.List.{length-reverse, reverse-append, take_more, take_more_set}
+use Rattle.std.proofs.Common.{◌≡◌, ℕ, ◌+◌, ◌-◌, ◌<◌, List, [], ◌∷◌, ◌^◌, length, All, reverse, take, drop, set, get_or, sym, ap, ◌∙◌, arith, length-take}
+use Rattle.std.proofs.lemmas.List.{length-reverse, get_or-reverse, reverse-append, take_more, take_more_set}
+use Rattle.std.proofs.lemmas.List.Elements.{All-take, All-from_get_or}
+use Rattle.bank.specs.Meaning.{IsPile}
+use Rattle.piles.specs.declared.pile.Pile.{Pile}
+use Rattle.piles.specs.Piles.{words_of}
 
 -- the top, and what lies below it
 pub stack_top : (words : List ℕ) (l : ℕ) → l < length words → reverse (take (l + 1) words) ≡ get_or words l 0 ∷ reverse (take l words)
@@ -16,3 +20,19 @@ pub stack_pop : (words : List ℕ) (l : ℕ) → 0 < l → l < length words → 
 stack_pop words l p h =
     let e : l - 1 + 1 ≡ l = omega arith in
     ap (λ n. reverse (take n words)) e ∙ sym (ap (drop 1) (stack_top words l h))
+
+turned : (P : ℕ → Type 0) (xs : List ℕ) → All P xs → All P (reverse xs)
+turned P xs each = All-from_get_or P (reverse xs) 0 (λ i h.
+    let n = length-reverse xs in
+    rw (get_or-reverse xs i 0 (omega (arith, n))) (each (length xs - 1 - i) 0 (omega (arith, n))))
+
+-- what a pile holds are one to five words
+pub pile_is : (p : Pile) → IsPile (words_of p)
+unfolding words_of
+pile_is p =
+    let n = stack_length p.words p.level (omega (arith, p.wide, p.deep)) in
+    record {
+      some = omega (arith, n);
+      few = omega (arith, n, p.deep);
+      fit = turned (λ w. w < 2 ^ 32) (take (p.level + 1) p.words) (All-take (λ w. w < 2 ^ 32) (p.level + 1) p.words p.fit);
+    }

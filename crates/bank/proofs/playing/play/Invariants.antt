@@ -1,4 +1,4 @@
-use Rattle.std.proofs.Common.{◌≡◌, ℕ, ◌≤◌, ◌++◌, length, drop, vec_len, vec_capacity}
+use Rattle.std.proofs.Common.{◌≡◌, ◌≤◌, ◌++◌, length, drop, vec_len, vec_capacity}
 use Rattle.bank.specs.Runs.{answers_to, after_all}
 use Rattle.bank.proofs.playing.play.Given as goal
 
@@ -11,7 +11,6 @@ invariant-loop-call g l =
     record {
       room : length l.calls ≤ vec_capacity l.answers;
       count : vec_len l.answers ≡ l.call-index;
-      keeps : kind.sound first → kind.sound m;
-      answers : kind.sound first → l.answers.items ++ answers_to kind m (drop l.call-index l.calls) ≡ answers_to kind first l.calls;
-      after : kind.sound first → after_all kind m (drop l.call-index l.calls) ≡ after_all kind first l.calls;
+      answers : l.answers.items ++ answers_to kind m (drop l.call-index l.calls) ≡ answers_to kind first l.calls;
+      after : after_all kind m (drop l.call-index l.calls) ≡ after_all kind first l.calls;
     }

@@ -1,4 +1,4 @@
-use Rattle.std.proofs.Common.{◌≡◌, ℕ, [], ◌∷◌, length, map, take, vec_len}
+use Rattle.std.proofs.Common.{◌≡◌, ℕ, [], ◌∷◌, map, take, vec_len}
 use Rattle.piles.specs.Piles.{words_of}
 use Rattle.piles.proofs.piles.Piles.new.Given as goal
 
