@@ -3,10 +3,10 @@ use Rattle.std.proofs.Common.{◌≡◌, ℕ, true, zero, suc, ◌+◌, ◌-◌,
 use Rattle.std.proofs.lemmas.List.{get_or_past}
 use Rattle.std.proofs.lemmas.Bool.{cases_lt}
 use Rattle.std.proofs.lemmas.List.Elements.{All-from_get_or, All-weaker}
-use Rattle.bank.specs.Meaning.{greatest_errno, Device, absent, device, pile, piles, level, deepest, put_answer, raise_answer, is_lowered, is_raised, is_put, AreDevices}
+use Rattle.bank.specs.Meaning.{hindrance, greatest_errno, Device, absent, device, pile, piles, level, deepest, put_answer, raise_answer, is_lowered, is_raised, is_put, AreDevices}
 use Rattle.bank.specs.Laws.{GainsWord, LosesWord, HoldsWord, Kind, Laws}
 use Rattle.bank.proofs.Changes.{lowered_parts}
-use Rattle.bankrules.specs.Injections.{cell_into_next, overlaid, injected, AreCells, injector_kind}
+use Rattle.bankrules.specs.Injections.{Over, cell_into_next, overlaid, injected, AreCells, injector_kind}
 
 module _ (cells : List ℕ) where
   injected_count_from : (d : ℕ) (ds : List Device) → length (injected cells d ds) ≡ length ds
@@ -129,3 +129,35 @@ idle_cells cells ds zeros = injected_idle cells (All-weaker (λ c. c ≡ 0) (λ 
 -- bytes are within the greatest errno
 pub byte_cells : (cells : List ℕ) → ((i d : ℕ) → i < length cells → get_or cells i d < 256) → AreCells greatest_errno cells
 byte_cells cells bytes = λ k d h. let b = bytes k d h in omega arith
+
+-- past the last device there is none on either side
+injected_past : (cells : List ℕ) (ds : List Device) (d : ℕ) → length ds ≤ d → device (injected cells 0 ds) d ≡ device ds d
+injected_past cells ds d h = get_or_past (injected cells 0 ds) d absent (omega (arith, injected_count cells ds)) ∙ sym (get_or_past ds d absent h)
+
+-- a device that nothing is injected into is as below
+untouched : (cells : List ℕ) (ds : List Device) (d : ℕ) → cell_into_next cells d (level ds d) ≡ 0 → device (injected cells 0 ds) d ≡ device ds d
+untouched cells ds d none = go (cases_lt d (length ds))
+  where
+    same : (x : Device) → cell_into_next cells d (length x.words - 1) ≡ 0 → overlaid cells d x ≡ x
+    same x e = grind arith
+    go : (d < length ds) ⊎ (length ds ≤ d) → device (injected cells 0 ds) d ≡ device ds d
+    go (inl h) = injected_device cells ds d h ∙ same (device ds d) none
+    go (inr h) = injected_past cells ds d h
+
+touched : (cells : List ℕ) (ds : List Device) (d : ℕ) → d < length ds → level ds d < deepest → 0 < get_or cells (4 * d + level ds d) 0 → hindrance (injected cells 0 ds) d ≡ get_or cells (4 * d + level ds d) 0
+touched cells ds d h low some = ap (λ (x : Device). x.hindrance) (injected_device cells ds d h) ∙ (grind arith)
+
+module _ {M : Type 0} (limit : ℕ) (below : Kind M) where
+  pub injector_over : Over limit below
+  injector_over = record {
+    words = λ m. injected_piles m.1 (below.devices m.0);
+    cell = λ m d h low some. touched m.1 (below.devices m.0) d h low some;
+    no_cell = λ m d none. untouched m.1 (below.devices m.0) d (no_cell_none m.1 d (level (below.devices m.0) d) none);
+    bottom = λ m d deep. untouched m.1 (below.devices m.0) d (no_cell_deep m.1 d (level (below.devices m.0) d) deep);
+    idle = λ m zeros. idle_cells m.1 (below.devices m.0) zeros;
+  }
+    where
+      no_cell_none : (cells : List ℕ) (d l : ℕ) → get_or cells (4 * d + l) 0 ≡ 0 → cell_into_next cells d l ≡ 0
+      no_cell_none cells d l e = grind arith
+      no_cell_deep : (cells : List ℕ) (d l : ℕ) → deepest ≤ l → cell_into_next cells d l ≡ 0
+      no_cell_deep cells d l e = grind arith

@@ -1,11 +1,11 @@
 -- Two banks as one keep the laws.
-use Rattle.std.proofs.Common.{◌≡◌, ℕ, true, ◌-◌, ◌<◌, ◌≤◌, ◌^◌, List, [], ◌∷◌, ◌++◌, length, set, drop, refl, sym, ap, ◌∙◌, ◌⊎◌, inl, inr, arith, length-append, length-set}
+use Rattle.std.proofs.Common.{◌≡◌, ℕ, true, false, ltb, ◌+◌, ◌-◌, ◌<◌, ◌≤◌, ◌^◌, List, [], ◌∷◌, ◌++◌, length, set, drop, refl, sym, ap, ◌∙◌, ◌⊎◌, inl, inr, arith, length-append, length-set}
 use Rattle.std.proofs.lemmas.List.{map-append, length-map, get_or_append_left, get_or-append_right, set-append_left, set-append_right}
 use Rattle.std.proofs.lemmas.List.Elements.{All-append}
 use Rattle.std.proofs.lemmas.Bool.{cases_lt, lt-ltb, le-ltb}
 use Rattle.bank.specs.Meaning.{Device, absent, device, pile, piles, is_lowered, is_raised, is_put, IsPile, AreDevices}
 use Rattle.bank.specs.Laws.{GainsWord, LosesWord, HoldsWord, Kind, Laws}
-use Rattle.bankrules.specs.Pairs.{pair_kind}
+use Rattle.bankrules.specs.Pairs.{Apart, pair_kind}
 
 module _ (xs ys : List Device) (d : ℕ) where
   left_device : d < length xs → device (xs ++ ys) d ≡ device xs d
@@ -129,3 +129,19 @@ module _ {M N : Type 0} (limit : ℕ) (left : Kind M) (right : Kind N) (left_law
 
   pub pair_lawful : Laws limit (pair_kind left right)
   pair_lawful = record { means = pair_means; lowering = pair_lowering; raising = pair_raising; writing = pair_writing }
+
+module _ {M N : Type 0} (left : Kind M) (right : Kind N) where
+  right_number : (m : M × N) (d : ℕ) → ltb (length (left.devices m.0) + d) (length (left.devices m.0)) ≡ false
+  right_number m d = le-ltb _ _ (omega arith)
+
+  right_taken_off : (m : M × N) (d : ℕ) → length (left.devices m.0) + d - length (left.devices m.0) ≡ d
+  right_taken_off m d = omega arith
+
+  pub pair_apart : Apart left right
+  pair_apart = record {
+    count = λ m. length-append (left.devices m.0) (right.devices m.1);
+    left_device = λ m d h. left_device (left.devices m.0) (right.devices m.1) d h;
+    right_device = λ m d. right_device (left.devices m.0) (right.devices m.1) (length (left.devices m.0) + d) (omega arith) ∙ ap (device (right.devices m.1)) (right_taken_off m d);
+    left_calls = λ m d h. rw (lt-ltb d (length (left.devices m.0)) h) (refl, refl, λ w. refl);
+    right_calls = λ m d. rw (right_number m d, right_taken_off m d) (refl, refl, λ w. refl);
+  }

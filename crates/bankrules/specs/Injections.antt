@@ -1,7 +1,7 @@
 -- Errnos that are injected over the hindrances of another bank.
-use Rattle.std.specs.Prelude.{ℕ, suc, ◌+◌, ◌-◌, ◌*◌, ◌≤◌, ◌==◌, nat_lt, if◌then◌else◌, List, [], ◌∷◌, length, slice_index_or, All}
+use Rattle.std.specs.Prelude.{◌≡◌, ℕ, suc, ◌+◌, ◌-◌, ◌*◌, ◌<◌, ◌≤◌, ◌==◌, nat_lt, if◌then◌else◌, List, [], ◌∷◌, length, slice_index_or, All}
 use Rattle.bank.specs.Laws.{Kind}
-use Rattle.bank.specs.Meaning.{Device, deepest}
+use Rattle.bank.specs.Meaning.{Device, device, piles, level, hindrance, deepest}
 
 -- Cells are a list of four for each device, one for each of the levels 1 to 4. The cell of device d for level l + 1; there is none
 -- past the deepest level, and one that is missing counts as 0
@@ -33,3 +33,14 @@ injector_kind limit below =
       written = λ m d w. (below.written m.0 d w, m.1);
       sound = λ m. below.sound m.0 × AreCells limit m.1;
     }
+
+-- What an injector shows of a bank: the words below, and what a cell injects where it is not zero
+pub record Over {M : Type 0} (limit : ℕ) (below : Kind M) : Type 0 where
+  pub words : (m : M × List ℕ) → piles ((injector_kind limit below).devices m) ≡ piles (below.devices m.0)
+  pub cell : (m : M × List ℕ) (d : ℕ) → d < length (below.devices m.0) → level (below.devices m.0) d < deepest → 0 < slice_index_or m.1 (4 * d + level (below.devices m.0) d) 0
+      → hindrance ((injector_kind limit below).devices m) d ≡ slice_index_or m.1 (4 * d + level (below.devices m.0) d) 0
+  pub no_cell : (m : M × List ℕ) (d : ℕ) → slice_index_or m.1 (4 * d + level (below.devices m.0) d) 0 ≡ 0
+      → device ((injector_kind limit below).devices m) d ≡ device (below.devices m.0) d
+  pub bottom : (m : M × List ℕ) (d : ℕ) → deepest ≤ level (below.devices m.0) d → device ((injector_kind limit below).devices m) d ≡ device (below.devices m.0) d
+  -- where no cell injects, it shows what is shown below
+  pub idle : (m : M × List ℕ) → All (λ c. c ≡ 0) m.1 → (injector_kind limit below).devices m ≡ below.devices m.0

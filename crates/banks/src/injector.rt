@@ -1,7 +1,7 @@
 // Errnos that are injected over another bank.
 ghost use Rattle.std.specs.Prelude.{◌≡◌, ◌<◌, ◌≤◌, ◌+◌, ◌++◌, length, slice_index_or, List, ℕ, All};
 ghost use Rattle.bank.specs.Meaning.{greatest_errno, deepest};
-ghost use Rattle.bankrules.specs.Injections.{cell_into_next, injector_kind, AreCells};
+ghost use Rattle.bankrules.specs.Injections.{Over, cell_into_next, injector_kind, AreCells};
 ghost use Rattle.bankrules.proofs.Injecting.{injector_lawful};
 
 use crate::ruled::code_of;
@@ -29,7 +29,7 @@ impl<B: Bank> Injector<B> {
     pub fn new(bank: B, cells: Vec<u8>) -> Injector<B>
         ensures bank { result.bank ≡ bank }
         ensures cells { result.cells.items ≡ cells.items }
-        ensures idle { All (λ c. c ≡ 0) cells.items → (m : B.Model) → (injector_kind greatest_errno B.kind).devices (m, cells.items) ≡ B.kind.devices m }
+        ensures over { Over greatest_errno B.kind }
     {
         Injector { bank, cells }
     }

@@ -1,8 +1,9 @@
 // Two banks as one.
-ghost use Rattle.std.specs.Prelude.{◌≡◌, ◌<◌, ◌≤◌, ◌+◌, ◌++◌, length, MatchResult};
+ghost use Rattle.std.specs.Prelude.{◌≡◌, ◌<◌, ◌≤◌, ◌+◌, ◌-◌, if◌then◌else◌, nat_lt, ◌↔◌, length, IsErr, MatchResult};
 ghost use Rattle.bank.specs.Meaning.{greatest_errno, most_devices};
 ghost use Rattle.bank.specs.declared.fault.BankFault.TheVariants.{TooMany as Many};
-ghost use Rattle.bankrules.specs.Pairs.{behind, pair_kind};
+ghost use Rattle.banks.specs.declared.pair.Side.TheVariants.{Left, Right};
+ghost use Rattle.bankrules.specs.Pairs.{Apart, behind, answer_behind, pair_kind};
 ghost use Rattle.bankrules.proofs.Pairing.{pair_lawful};
 
 use bank::bank::Bank;
@@ -28,7 +29,9 @@ pub struct Unpaired<L: Bank, R: Bank> {
 impl<L: Bank, R: Bank> Pair<L, R> {
     // Refused where there are more than 64 devices; both banks are then handed back.
     pub fn new(left: L, right: R) -> Result<Pair<L, R>, Unpaired<L, R>>
-        ensures { MatchResult result (λ pair. (pair.left ≡ left) × (pair.right ≡ right) × (length (L.kind.devices (L.model left)) + length (R.kind.devices (R.model right)) ≤ most_devices)) (λ parts. (parts.left ≡ left) × (parts.right ≡ right) × (parts.fault ≡ Many) × (most_devices < length (L.kind.devices (L.model left)) + length (R.kind.devices (R.model right)))) }
+        ensures parts { MatchResult result (λ pair. (pair.left ≡ left) × (pair.right ≡ right)) (λ parts. (parts.left ≡ left) × (parts.right ≡ right) × (parts.fault ≡ Many)) }
+        ensures many { IsErr result ↔ (most_devices < length (L.kind.devices (L.model left)) + length (R.kind.devices (R.model right))) }
+        ensures apart { Apart L.kind R.kind }
     {
         let count = u16::from(left.count()) + u16::from(right.count());
         if count > 64 {
@@ -52,14 +55,43 @@ impl From<Behind> for BankFault {
 
     fn from(behind: Behind) -> BankFault {
         let Behind { fault, before } = behind;
+        let counted = |device: u8| device.saturating_add(before);
         match fault {
             BankFault::NoDevice { device } => BankFault::NoDevice {
-                device: device.saturating_add(before),
+                device: counted(device),
             },
             BankFault::WrongLevel { device } => BankFault::WrongLevel {
-                device: device.saturating_add(before),
+                device: counted(device),
             },
             BankFault::TooMany => BankFault::TooMany,
+        }
+    }
+}
+
+// What a bank answers that has this many devices before it.
+fn from_right<T>(answer: Result<T, BankFault>, before: u8) -> Result<T, BankFault>
+    ensures { result ≡ answer_behind before answer }
+{
+    Ok(answer.map_err(|fault| Behind { fault, before })?)
+}
+
+// Where a device is, and its number there.
+enum Side {
+    Left,
+    Right { device: u8, before: u8 },
+}
+
+impl<L: Bank, R: Bank> Pair<L, R> {
+    fn side(&self, device: u8) -> Side
+        ensures { result ≡ (if nat_lt device (length (L.kind.devices (L.model self.now.left))) then Left else Right (device - length (L.kind.devices (L.model self.now.left))) (length (L.kind.devices (L.model self.now.left)))) }
+    {
+        let before = self.left.count();
+        if device < before {
+            return Side::Left;
+        }
+        Side::Right {
+            device: device - before,
+            before,
         }
     }
 }
@@ -76,58 +108,30 @@ impl<L: Bank, R: Bank> Bank for Pair<L, R> {
     }
 
     fn look(&self, device: u8) -> Result<(u8, u32, u8), BankFault> {
-        let before = self.left.count();
-        match device.checked_sub(before) {
-            None => self.left.look(device),
-            Some(device) => {
-                Ok(
-                    self.right
-                        .look(device)
-                        .map_err(|fault| Behind { fault, before })?,
-                )
-            }
+        match self.side(device) {
+            Side::Left => self.left.look(device),
+            Side::Right { device, before } => from_right(self.right.look(device), before),
         }
     }
 
     fn put(&mut self, device: u8, word: u32) -> Result<(), BankFault> {
-        let before = self.left.count();
-        match device.checked_sub(before) {
-            None => self.left.put(device, word),
-            Some(device) => {
-                Ok(
-                    self.right
-                        .put(device, word)
-                        .map_err(|fault| Behind { fault, before })?,
-                )
-            }
+        match self.side(device) {
+            Side::Left => self.left.put(device, word),
+            Side::Right { device, before } => from_right(self.right.put(device, word), before),
         }
     }
 
     fn lower(&mut self, device: u8) -> Result<i16, BankFault> {
-        let before = self.left.count();
-        match device.checked_sub(before) {
-            None => self.left.lower(device),
-            Some(device) => {
-                Ok(
-                    self.right
-                        .lower(device)
-                        .map_err(|fault| Behind { fault, before })?,
-                )
-            }
+        match self.side(device) {
+            Side::Left => self.left.lower(device),
+            Side::Right { device, before } => from_right(self.right.lower(device), before),
         }
     }
 
     fn raise(&mut self, device: u8) -> Result<i16, BankFault> {
-        let before = self.left.count();
-        match device.checked_sub(before) {
-            None => self.left.raise(device),
-            Some(device) => {
-                Ok(
-                    self.right
-                        .raise(device)
-                        .map_err(|fault| Behind { fault, before })?,
-                )
-            }
+        match self.side(device) {
+            Side::Left => self.left.raise(device),
+            Side::Right { device, before } => from_right(self.right.raise(device), before),
         }
     }
 

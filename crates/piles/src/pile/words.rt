@@ -28,7 +28,8 @@ impl Pile {
     pub fn top(self) -> u32
         ensures { result ≡ slice_index_or (words_of self) 0 0 }
     {
-        self.words[usize::from(self.level)]
+        let place = usize::from(self.level);
+        self.words[place]
     }
 
     // With another word in place of its only one; nothing where there are more.

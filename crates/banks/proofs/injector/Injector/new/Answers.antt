@@ -1,9 +1,10 @@
 use Rattle.std.proofs.Common.{rules}
-use Rattle.bankrules.proofs.Injecting.{byte_cells, idle_cells}
+use Rattle.bank.specs.Meaning.{greatest_errno}
+use Rattle.bankrules.proofs.Injecting.{byte_cells, injector_over}
 use Rattle.banks.proofs.injector.Injector.new.Goals as goal
 
-pub returns-clause-idle : goal.returns-clause-idle
-returns-clause-idle g c = λ zeros m. idle_cells c.args.cells.items (g.B.Bank.kind.devices m) zeros
+pub returns-clause-over : goal.returns-clause-over
+returns-clause-over g c = injector_over greatest_errno g.B.Bank.kind
 
 pub invariant_of-result : goal.invariant_of-result
 invariant_of-result g c = search (rules, byte_cells)
