@@ -1,5 +1,7 @@
 -- Calls of a bank one after another.
-use Rattle.std.specs.Prelude.{ℕ, if◌then◌else◌, List, [], ◌∷◌, length, Ok, Err, Result}
+use Rattle.std.specs.Prelude.{◌≡◌, ℕ, if◌then◌else◌, List, [], ◌∷◌, length, Ok, Err, Result, Vec, vec_items}
+use Rattle.std.specs.declared.alloc.Global.{Global}
+use Rattle.std.specs.declared.alloc.AllocError.{AllocError}
 use Rattle.bank.specs.declared.call.Call.{Call}
 use Rattle.bank.specs.declared.call.Call.TheVariants.{Count, Look, Put, Lower, Raise}
 use Rattle.bank.specs.declared.call.Reply.{Reply}
@@ -38,3 +40,8 @@ answers_to kind m (call ∷ calls) = answer_to (kind.devices m) call ∷ answers
 abbrev pub after_all : {M : Type 0} → Kind M → M → List Call → M
 after_all kind m [] = m
 after_all kind m (call ∷ calls) = after_all kind (after kind m call) calls
+
+-- these answers, wherever there is memory for them
+abbrev pub Plays : {M : Type 0} → Kind M → M → List Call → Result (Vec (Result Reply BankFault) Global) AllocError → Type 0
+Plays kind m calls (Ok answers) = vec_items answers ≡ answers_to kind m calls
+Plays kind m calls (Err e) = Unit {0}

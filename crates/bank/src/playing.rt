@@ -1,6 +1,6 @@
 // Calls of any bank, made one after another.
-ghost use Rattle.std.specs.Prelude.{◌≡◌, ◌++◌, IfOk, OnOk, OnErr};
-ghost use Rattle.bank.specs.Runs.{answer_to, after, answers_to, after_all};
+ghost use Rattle.std.specs.Prelude.{◌≡◌, ◌++◌, OnOk, OnErr};
+ghost use Rattle.bank.specs.Runs.{Plays, answer_to, after, after_all};
 
 use crate::bank::Bank;
 use crate::call::{Call, Reply};
@@ -45,7 +45,7 @@ pub fn play<B: Bank>(
     bank: &mut B,
     calls: &[Call],
 ) -> Result<Vec<Result<Reply, BankFault>>, AllocError>
-    ensures answers { IfOk result (λ answers. answers.items ≡ answers_to B.kind (B.model bank.old) calls.now) }
+    ensures answers { Plays B.kind (B.model bank.old) calls.now result }
     ensures after { OnOk result (B.model bank.new ≡ after_all B.kind (B.model bank.old) calls.now) }
     ensures none { OnErr result (B.model bank.new ≡ B.model bank.old) }
 {

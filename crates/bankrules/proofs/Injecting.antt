@@ -140,6 +140,7 @@ untouched cells ds d none = go (cases_lt d (length ds))
   where
     same : (x : Device) → cell_into_next cells d (length x.words - 1) ≡ 0 → overlaid cells d x ≡ x
     same x e = grind arith
+
     go : (d < length ds) ⊎ (length ds ≤ d) → device (injected cells 0 ds) d ≡ device ds d
     go (inl h) = injected_device cells ds d h ∙ same (device ds d) none
     go (inr h) = injected_past cells ds d h
@@ -159,5 +160,6 @@ module _ {M : Type 0} (limit : ℕ) (below : Kind M) where
     where
       no_cell_none : (cells : List ℕ) (d l : ℕ) → get_or cells (4 * d + l) 0 ≡ 0 → cell_into_next cells d l ≡ 0
       no_cell_none cells d l e = grind arith
+
       no_cell_deep : (cells : List ℕ) (d l : ℕ) → deepest ≤ l → cell_into_next cells d l ≡ 0
       no_cell_deep cells d l e = grind arith

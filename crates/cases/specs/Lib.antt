@@ -1,2 +1,3 @@
 pub mod Boards
 pub mod Cases
+pub mod Registers

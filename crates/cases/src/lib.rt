@@ -1,8 +1,15 @@
-// The worked cases: board files, and what is to come of each.
+// The worked cases: board files and calls of banks, and what is to come of each.
 #![tactic(auto)]
 
 ghost use Rattle.std.specs.Prelude.{◌≡◌, ◌<◌, ◌≤◌, [], length, MatchOption, slice_index_or};
-ghost use Rattle.cases.specs.Cases.{AllHold, AllChecked, AllPrinted, cases, boards};
+ghost use Rattle.cases.specs.Cases.{AllHold, AllChecked, AllPrinted, boards};
+ghost use Rattle.cases.specs.Registers.{RegistersAnswer};
+
+use bank::call::{Call, Reply};
+use bank::fault::{BankFault, MakeFault};
+use bank::playing::play;
+use banks::register::register_bank;
+use std::alloc::Global;
 
 // clk, i2c and lcd: read with the order 0, 1, 2.
 const THREE_DEVICES: [u8; 68] = *b"\
@@ -79,7 +86,7 @@ const BOARDS: [&[u8]; 9] = [
 // The board file of a worked case. That the cases hold is proved of every answer that the contract of the reader allows, of
 // every answer that the contract of the check without memory allows, and of every answer that the contract of `list` allows.
 pub fn worked_board(case: usize) -> Option<&'static [u8]>
-    ensures bytes { MatchOption result (length cases ≤ «case») (λ bytes. («case» < length cases) × (bytes.now ≡ slice_index_or boards «case» [])) }
+    ensures bytes { MatchOption result (length boards ≤ «case») (λ bytes. («case» < length boards) × (bytes.now ≡ slice_index_or boards «case» [])) }
     ensures hold { AllHold }
     ensures checked { AllChecked }
     ensures printed { AllPrinted }
@@ -87,5 +94,19 @@ pub fn worked_board(case: usize) -> Option<&'static [u8]>
     BOARDS.get(case).copied()
 }
 
+// What a register bank with these words answers to calls one after another.
+pub fn register_answers(
+    heap: Global,
+    words: &[u32],
+    calls: &[Call],
+) -> Result<Vec<Result<Reply, BankFault>>, MakeFault>
+    ensures { RegistersAnswer words.now calls.now result }
+{
+    let mut bank = register_bank(heap, words)?;
+    Ok(play(heap, &mut bank, calls)?)
+}
+
+#[cfg(test)]
+mod bank_tests;
 #[cfg(test)]
 mod tests;
