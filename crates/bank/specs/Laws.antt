@@ -1,4 +1,4 @@
--- What a bank is a model of, and what every bank keeps to.
+-- Kinds of banks, and what every kind keeps to.
 use Rattle.std.specs.Prelude.{◌≡◌, ℕ, ◌<◌, ◌^◌, true, List, [], ◌∷◌, drop, set}
 use Rattle.bank.specs.Meaning.{Device, AreDevices, pile, piles, is_put, is_lowered, is_raised}
 

@@ -3,3 +3,4 @@ pub mod Meaning
 pub mod Laws
 pub mod Makings
 pub mod Runs
+pub mod Behaviour

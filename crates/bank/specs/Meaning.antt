@@ -4,7 +4,7 @@ use Rattle.bank.specs.declared.fault.BankFault.{BankFault}
 use Rattle.bank.specs.declared.fault.BankFault.TheVariants.{NoDevice, WrongLevel}
 
 -- A device: its pile of words, the newest first, and its hindrance, the errno that it would give if it were lowered now (0 for
--- none).
+-- none). At the deepest level a hindrance is the bank's choice and has no effect.
 pub record Device : Type 0 where
   pub words : List ℕ
   pub hindrance : ℕ
@@ -58,11 +58,11 @@ seen devices d = if_known devices d (Ok (level devices d, word devices d, hindra
 abbrev pub put_answer : List Device → ℕ → Result (Unit {0}) BankFault
 put_answer devices d = if_known devices d (if_level (level devices d == 0) d tt)
 
--- a lowering is for a device above the deepest level; its code is the hindrance negated, so 0 exactly where nothing hinders
+-- a lowering is for a device at a level less than the deepest; its code is the hindrance negated, so 0 exactly where nothing hinders
 abbrev pub lower_answer : List Device → ℕ → Result ℤ BankFault
 lower_answer devices d = if_known devices d (if_level (nat_lt (level devices d) deepest) d (neg_ℤ (pos (hindrance devices d))))
 
--- a raising is for a device below level 0; its code is 0
+-- a raising is for a device at a level greater than 0; its code is 0
 abbrev pub raise_answer : List Device → ℕ → Result ℤ BankFault
 raise_answer devices d = if_known devices d (if_level (nat_lt 0 (level devices d)) d (pos 0))
 

@@ -1,5 +1,5 @@
 -- Calls of a bank one after another.
-use Rattle.std.specs.Prelude.{◌≡◌, ℕ, if◌then◌else◌, List, [], ◌∷◌, length, Ok, Err, Result, Vec, vec_items}
+use Rattle.std.specs.Prelude.{◌≡◌, ℕ, ◌<◌, ◌^◌, if◌then◌else◌, List, [], ◌∷◌, length, Ok, Err, Result, Vec, vec_items}
 use Rattle.std.specs.declared.alloc.Global.{Global}
 use Rattle.std.specs.declared.alloc.AllocError.{AllocError}
 use Rattle.bank.specs.declared.call.Call.{Call}
@@ -9,6 +9,14 @@ use Rattle.bank.specs.declared.call.Reply.TheVariants.{Counted, Seen, Done, Code
 use Rattle.bank.specs.declared.fault.BankFault.{BankFault}
 use Rattle.bank.specs.Meaning.{Device, seen, put_answer, lower_answer, raise_answer, is_put, is_lowered, is_raised}
 use Rattle.bank.specs.Laws.{Kind}
+
+-- a word that is put has 32 bits
+abbrev pub FitsCall : Call → Type 0
+FitsCall Count = Unit {0}
+FitsCall (Look d) = Unit {0}
+FitsCall (Put d w) = w < 2 ^ 32
+FitsCall (Lower d) = Unit {0}
+FitsCall (Raise d) = Unit {0}
 
 -- what is answered, as a reply
 abbrev pub replied : {A : Type 0} → (A → Reply) → Result A BankFault → Result Reply BankFault

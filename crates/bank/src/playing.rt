@@ -1,5 +1,6 @@
 // Calls of any bank, made one after another.
-ghost use Rattle.std.specs.Prelude.{◌≡◌, ◌++◌, OnOk, OnErr};
+ghost use Rattle.std.specs.Prelude.{◌≡◌, [], ◌∷◌, IfOk, OnOk, OnErr};
+ghost use Rattle.bank.specs.Behaviour.{Behaves};
 ghost use Rattle.bank.specs.Runs.{Plays, answer_to, after, after_all};
 
 use crate::bank::Bank;
@@ -8,10 +9,11 @@ use crate::fault::BankFault;
 use std::alloc::{AllocError, Global};
 
 impl Call {
-    // Makes this call of a bank.
+    // Makes this call of a bank, which behaves as any bank does.
     pub fn make<B: Bank>(self, bank: &mut B) -> Result<Reply, BankFault>
         ensures answer { result ≡ answer_to (B.kind.devices (B.model bank.old)) self }
         ensures after { B.model bank.new ≡ after B.kind (B.model bank.old) self }
+        ensures behaves { Behaves (B.kind.devices (B.model bank.old)) (self ∷ []) (result ∷ []) (B.kind.devices (B.model bank.new)) }
     {
         Ok(match self {
             Call::Count => Reply::Counted {
@@ -47,6 +49,7 @@ pub fn play<B: Bank>(
 ) -> Result<Vec<Result<Reply, BankFault>>, AllocError>
     ensures answers { Plays B.kind (B.model bank.old) calls.now result }
     ensures after { OnOk result (B.model bank.new ≡ after_all B.kind (B.model bank.old) calls.now) }
+    ensures behaves { IfOk result (λ answers. Behaves (B.kind.devices (B.model bank.old)) calls.now answers.items (B.kind.devices (B.model bank.new))) }
     ensures none { OnErr result (B.model bank.new ≡ B.model bank.old) }
 {
     let mut answers = Vec::with_capacity(heap, calls.len())?;

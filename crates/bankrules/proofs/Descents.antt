@@ -5,11 +5,11 @@ use Rattle.std.proofs.lemmas.Bool.{cond_both}
 use Rattle.std.proofs.lemmas.List.Elements.{All-set, All-map, All-weaker}
 use Rattle.bank.specs.Laws.{Kind}
 use Rattle.bank.specs.Meaning.{deepest, is_lowered, is_raised, is_put}
-use Rattle.bank.specs.Runs.{after, after_all}
+use Rattle.bank.specs.Runs.{FitsCall, after, after_all}
 use Rattle.bank.specs.declared.call.Call.{Call}
 use Rattle.bank.specs.declared.call.Call.TheVariants.{Count, Look, Put, Lower, Raise}
 use Rattle.bankrules.specs.declared.standing.Standing.{Standing}
-use Rattle.bankrules.specs.Rules.{each_with_one, with_word, without_top, with_only, ruled_kind, descent, IsDescent, FitsCall, FirstWordsTell}
+use Rattle.bankrules.specs.Rules.{each_with_one, with_word, without_top, with_only, ruled_kind, descent, IsDescent, FirstWordsTell}
 use Rattle.bankrules.proofs.Ruling.{low_inside, deep_inside}
 
 -- the first word tells all words: at level 0 it is itself, and below it is what the rule adds

@@ -33,7 +33,7 @@ bus_word first level = if nat_lt level 4 then first else 0
 abbrev pub bus_kind : Kind (List (List ℕ))
 bus_kind = ruled_kind bus_hinders bus_adds
 
--- once its controller has gone past it, no member goes deeper
+-- once its controller is at level 2 or deeper, and deeper than it, no member is lowered
 abbrev pub MembersHeld : Type 0
 MembersHeld =
     (piles : List (List ℕ)) (d : ℕ) → 0 < d → 2 ≤ level (bus_kind.devices piles) 0 → level (bus_kind.devices piles) d < level (bus_kind.devices piles) 0

@@ -2,9 +2,8 @@
 use Rattle.std.specs.Prelude.{◌≡◌, ℕ, suc, ◌-◌, ◌<◌, ◌^◌, zero, List, [], ◌∷◌, length, map, drop, set, slice_index_or, All}
 use Rattle.bank.specs.Laws.{Kind}
 use Rattle.bank.specs.Meaning.{Device, ArePiles}
-use Rattle.bank.specs.Runs.{after_all}
+use Rattle.bank.specs.Runs.{FitsCall, after_all}
 use Rattle.bank.specs.declared.call.Call.{Call}
-use Rattle.bank.specs.declared.call.Call.TheVariants.{Count, Look, Put, Lower, Raise}
 use Rattle.std.specs.List.{AllByRecursion}
 use Rattle.bankrules.specs.declared.standing.Standing.{Standing}
 
@@ -69,14 +68,6 @@ pub record IsDescent (word_at : ℕ → ℕ → ℕ) (words : List ℕ) : Type 0
   pub fits : first < 2 ^ 32
   pub level : ℕ
   pub words_are : words ≡ descent word_at first level
-
--- a word that is put has 32 bits
-abbrev pub FitsCall : Call → Type 0
-FitsCall Count = Unit {0}
-FitsCall (Look d) = Unit {0}
-FitsCall (Put d w) = w < 2 ^ 32
-FitsCall (Lower d) = Unit {0}
-FitsCall (Raise d) = Unit {0}
 
 -- whatever calls are made of a bank that is made of these words, at each of its levels each device holds the word that its first
 -- word tells

@@ -1,4 +1,5 @@
-use Rattle.std.proofs.Common.{◌≡◌, ◌≤◌, ◌++◌, length, drop, vec_len, vec_capacity}
+use Rattle.std.proofs.Common.{◌≡◌, ◌≤◌, ◌++◌, length, drop, take, vec_len, vec_capacity}
+use Rattle.bank.specs.Behaviour.{Behaves}
 use Rattle.bank.specs.Runs.{answers_to, after_all}
 use Rattle.bank.proofs.playing.play.Given as goal
 
@@ -12,5 +13,6 @@ invariant-loop-call g l =
       room : length l.calls ≤ vec_capacity l.answers;
       count : vec_len l.answers ≡ l.call-index;
       answers : l.answers.items ++ answers_to kind m (drop l.call-index l.calls) ≡ answers_to kind first l.calls;
+      behaves : Behaves (kind.devices first) (take l.call-index l.calls) l.answers.items (kind.devices m);
       after : after_all kind m (drop l.call-index l.calls) ≡ after_all kind first l.calls;
     }
