@@ -127,7 +127,7 @@ fn paired<L: Bank + Drop, R: Bank + Drop>(
     left: Result<L, MakeFault>,
     right: Result<R, MakeFault>,
 ) -> Result<Pair<L, R>, MakeFault> {
-    Ok(Pair::new(left?, right?).map_err(|parts| parts.fault)?)
+    Ok(Pair::new(left?, right?)?)
 }
 
 impl<L: Made, R: Made> Made for Pair<L, R> {

@@ -6,12 +6,15 @@ use Rattle.std.proofs.lemmas.List.Elements.{All-drop, All-set, All-replicate, Al
 use Rattle.bank.specs.Meaning.{Device, absent, device, pile, piles, deepest, is_lowered, is_raised, is_put, IsPile, ArePiles, AreDevices, most_devices}
 use Rattle.bank.specs.Laws.{GainsWord, LosesWord, HoldsWord, Laws}
 use Rattle.bank.proofs.Changes.{lowered_parts, raised_parts}
-use Rattle.bankrules.specs.Rules.{devices_of}
+use Rattle.bankrules.specs.Rules.{each_with_one, devices_of}
 use Rattle.bankrules.specs.Free.{Free, Chosen, hinders_by, last_choice, next_choice, changed, AreErrnos, IsChoice, IsFree, free_kind}
-use Rattle.bankrules.proofs.Ruling.{one_pile, more_pile, less_pile, ruled_count, ruled_piles, ruled_device}
+use Rattle.bankrules.proofs.Ruling.{made_count, one_pile, more_pile, less_pile, ruled_count, ruled_piles, ruled_device}
 
 pub free_count : (hindrances : List ℕ) (ps : List (List ℕ)) → length (devices_of (hinders_by hindrances) ps) ≡ length ps
 free_count hindrances ps = ruled_count (hinders_by hindrances) ps
+
+pub free_made_count : (hindrances words : List ℕ) → length (devices_of (hinders_by hindrances) (each_with_one words)) ≡ length words
+free_made_count hindrances words = made_count (hinders_by hindrances) words
 
 pub free_device : (hindrances : List ℕ) (ps : List (List ℕ)) (d : ℕ) → d < length ps → device (devices_of (hinders_by hindrances) ps) d ≡ record { words = get_or ps d []; hindrance = get_or hindrances d 0 }
 free_device hindrances ps d h = ruled_device (hinders_by hindrances) ps d h

@@ -2,9 +2,10 @@
 use Rattle.std.proofs.Common.{◌≡◌, ℕ, true, zero, suc, ◌+◌, ◌-◌, ◌<◌, ◌≤◌, ◌^◌, List, [], ◌∷◌, length, get_or, set, drop, length-drop, length-set, refl, ap, ◌∙◌, arith}
 use Rattle.bank.specs.Meaning.{Device, absent, device, pile, piles, deepest, is_lowered, is_raised, is_put, IsPile, ArePiles, AreDevices}
 use Rattle.bankrules.specs.declared.standing.Standing.{Standing}
-use Rattle.bankrules.specs.Rules.{standing, hindered, devices_of, with_word, without_top, with_only, ruled_kind}
+use Rattle.bankrules.specs.Rules.{each_with_one, standing, hindered, devices_of, with_word, without_top, with_only, ruled_kind}
 use Rattle.bank.specs.Laws.{GainsWord, LosesWord, HoldsWord, Laws}
 use Rattle.bank.proofs.Changes.{lowered_parts, raised_parts}
+use Rattle.std.proofs.lemmas.List.{length-map}
 use Rattle.std.proofs.lemmas.List.Elements.{All-nil, All-cons, All-drop, All-set, All-from_get_or}
 
 module _ (hinders : Standing → ℕ) (all : List (List ℕ)) where
@@ -45,6 +46,10 @@ module _ (hinders : Standing → ℕ) (ps : List (List ℕ)) where
       let parts = raised_parts (devices_of hinders ps) d t in
       let inside : d < length ps = omega (arith, parts.0, ruled_count) in
       (inside, omega (arith, parts.1, ap length (ruled_pile d inside)))
+
+-- a bank that is made of words has a device for each
+pub made_count : (hinders : Standing → ℕ) (words : List ℕ) → length (devices_of hinders (each_with_one words)) ≡ length words
+made_count hinders words = ruled_count hinders (each_with_one words) ∙ length-map words (λ (w : ℕ). w ∷ [])
 
 -- ---- such banks keep the laws
 

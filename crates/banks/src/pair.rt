@@ -2,12 +2,13 @@
 ghost use Rattle.std.specs.Prelude.{◌≡◌, ◌<◌, ◌≤◌, ◌+◌, ◌-◌, if◌then◌else◌, nat_lt, ◌↔◌, length, IsErr, MatchResult};
 ghost use Rattle.bank.specs.Meaning.{greatest_errno, most_devices};
 ghost use Rattle.bank.specs.declared.fault.BankFault.TheVariants.{TooMany as Many};
+ghost use Rattle.bank.specs.declared.fault.MakeFault.TheVariants.{Bank as Refused};
 ghost use Rattle.banks.specs.declared.pair.Side.TheVariants.{Left, Right};
 ghost use Rattle.bankrules.specs.Pairs.{Apart, behind, answer_behind, pair_kind};
 ghost use Rattle.bankrules.proofs.Pairing.{pair_lawful};
 
 use bank::bank::Bank;
-use bank::fault::BankFault;
+use bank::fault::{BankFault, MakeFault};
 
 // The devices of two banks: numbers below the left count are the left's, the others the right's, with the left count taken
 // off.
@@ -24,6 +25,15 @@ pub struct Unpaired<L: Bank, R: Bank> {
     pub fault: BankFault,
     pub left: L,
     pub right: R,
+}
+
+// The two banks are dropped.
+impl<L: Bank + Drop, R: Bank + Drop> From<Unpaired<L, R>> for MakeFault {
+    ghost from_gives = { λ parts r. r ≡ Refused parts.fault };
+
+    fn from(parts: Unpaired<L, R>) -> MakeFault {
+        MakeFault::from(parts.fault)
+    }
 }
 
 impl<L: Bank, R: Bank> Pair<L, R> {

@@ -34,6 +34,7 @@ pub(crate) fn code_of(errno: u8) -> i16
 
 impl<R: Rule> Ruled<R> {
     // A device for each word, at level 0.
+    #[tactic(auto, using(bankrules::proofs::Ruling::made_count))]
     pub(crate) fn new(heap: Global, words: &[u32]) -> Result<Ruled<R>, MakeFault>
         ensures { Makes ⟦<Ruled<R> as Bank>⟧ (each_with_one words.now) (length words.now) result }
     {

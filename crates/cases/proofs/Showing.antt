@@ -24,7 +24,7 @@ use Rattle.listing.specs.declared.printing.ListFault.{ListFault}
 use Rattle.listing.specs.declared.printing.ListFault.TheVariants.{Refused as IsRefused, Memory as NoMemory}
 use Rattle.listing.specs.Lines.{lines}
 use Rattle.listing.specs.Printing.{Lists, printed as bytes_printed}
-use Rattle.cases.specs.Cases.{Case, Contents, reads, refuses, registers, HasAnswered, HasRead, HasOrder, HasPrinted, Holds, IsChecked, IsPrinted}
+use Rattle.cases.specs.Cases.{Case, Contents, reads, refuses, registers, whole, HasAnswered, HasRead, HasOrder, HasPrinted, Holds, IsChecked, IsPrinted}
 use Rattle.bank.specs.declared.call.Call.{Call}
 use Rattle.bank.specs.declared.call.Reply.{Reply}
 use Rattle.bank.specs.declared.fault.BankFault.{BankFault}
@@ -34,6 +34,7 @@ use Rattle.bank.specs.Meaning.{most_devices}
 use Rattle.bank.specs.Runs.{answers_to}
 use Rattle.bankrules.specs.Rules.{each_with_one}
 use Rattle.bankrules.specs.Register.{register_kind}
+use Rattle.cases.specs.Injected.{Parts, board_kind, board_model, device_number, BoardAnswers}
 use Rattle.cases.specs.Registers.{RegistersAnswer}
 use Rattle.cases.proofs.Outcome.{superior, superior_tests, outcome, IsRight, outcome_right}
 
@@ -111,6 +112,7 @@ abbrev pub Passes : Case → Type 0
 Passes (reads bytes expected shown) = (outcome bytes ≡ Ok expected.order) × (said bytes expected.order ≡ expected) × (printed bytes expected.order ≡ shown)
 Passes (refuses bytes fault shown) = (outcome bytes ≡ Err fault) × (bytes_printed (Err (IsRefused (told fault))) ≡ shown)
 Passes (registers words calls answers) = (length words ≤ most_devices) × (answers_to register_kind (each_with_one words) calls ≡ answers)
+Passes (whole parts calls answers) = (device_number parts ≤ most_devices) × (answers_to board_kind (board_model parts) calls ≡ answers)
 
 -- the answers are those that are expected
 registers_hold : (words : List ℕ) (calls : List Call) (answers : List (Result Reply BankFault)) → length words ≤ most_devices → answers_to register_kind (each_with_one words) calls ≡ answers
@@ -119,20 +121,29 @@ registers_hold words calls answers few e (Ok given) is = is ∙ e
 registers_hold words calls answers few e (Err (IsUnmade f)) (many, is) = absurd (omega arith)
 registers_hold words calls answers few e (Err NoRoom) few' = tt
 
+whole_holds : (parts : Parts) (calls : List Call) (answers : List (Result Reply BankFault)) → device_number parts ≤ most_devices → answers_to board_kind (board_model parts) calls ≡ answers
+    → (r : Result (Vec (Result Reply BankFault) Global) MakeFault) → BoardAnswers parts calls r → HasAnswered answers r
+whole_holds parts calls answers few e (Ok given) is = is ∙ e
+whole_holds parts calls answers few e (Err (IsUnmade f)) (many, is) = absurd (omega arith)
+whole_holds parts calls answers few e (Err NoRoom) _ = tt
+
 pub holds : (c : Case) → Passes c → Holds c
 holds (reads bytes expected shown) (e, same, _) = λ r answer. subst (λ c. HasRead c r) same (reads_holds bytes expected.order e r answer)
 holds (refuses bytes fault shown) (e, _) = refuses_holds bytes fault e
 holds (registers words calls answers) (few, e) = registers_hold words calls answers few e
+holds (whole parts calls answers) (few, e) = whole_holds parts calls answers few e
 
 pub is_checked : (c : Case) → Passes c → IsChecked c
 is_checked (reads bytes expected shown) (e, _, _) = reads_checked bytes expected.order e
 is_checked (refuses bytes fault shown) (e, _) = refuses_checked bytes fault e
 is_checked (registers words calls answers) _ = tt
+is_checked (whole parts calls answers) _ = tt
 
 pub is_printed : (c : Case) → Passes c → IsPrinted c
 is_printed (reads bytes expected shown) (e, _, same) = λ r answer. subst (λ t. HasPrinted t r) same (reads_printed bytes expected.order e r answer)
 is_printed (refuses bytes fault shown) (e, same) = λ r answer. let is = refuses_printed bytes fault e r answer in (is, ap bytes_printed is ∙ same)
 is_printed (registers words calls answers) _ = tt
+is_printed (whole parts calls answers) _ = tt
 
 pub of_each : {P Q : Case → Type 0} → ((c : Case) → P c → Q c) → (cs : List Case) → AllByRecursion P cs → AllByRecursion Q cs
 of_each f [] all = tt

@@ -1,5 +1,5 @@
 -- The worked cases, as one list.
-use Rattle.std.specs.Prelude.{◌≡◌, ℕ, pos, neg_ℤ, List, [], ◌∷◌, map, filter_map, Vec, Some, None, Ok, Err, vec_items, codes, Option, Result, String, string_bytes}
+use Rattle.std.specs.Prelude.{◌≡◌, ℕ, List, [], ◌∷◌, map, filter_map, Vec, Some, None, Ok, Err, vec_items, codes, Option, Result, String, string_bytes}
 use Rattle.std.specs.List.{AllByRecursion}
 use Rattle.std.specs.declared.alloc.Global.{Global}
 use Rattle.order.specs.declared.ordering.Order.{Order}
@@ -20,13 +20,12 @@ use Rattle.listing.specs.declared.printing.ListFault.{ListFault}
 use Rattle.listing.specs.declared.printing.ListFault.TheVariants.{Refused as IsRefused, Memory as NoMemory}
 use Rattle.listing.specs.Printing.{Lists, printed}
 use Rattle.bank.specs.declared.call.Call.{Call}
-use Rattle.bank.specs.declared.call.Call.TheVariants.{Look, Lower, Raise}
 use Rattle.bank.specs.declared.call.Reply.{Reply}
-use Rattle.bank.specs.declared.call.Reply.TheVariants.{Seen, Code}
 use Rattle.bank.specs.declared.fault.BankFault.{BankFault}
-use Rattle.bank.specs.declared.fault.BankFault.TheVariants.{NoDevice, WrongLevel}
 use Rattle.bank.specs.declared.fault.MakeFault.{MakeFault}
 use Rattle.bank.specs.declared.fault.MakeFault.TheVariants.{Bank as IsUnmade, Memory as NoRoom}
+use Rattle.cases.specs.Calls.{down_and_up, down_and_up_answers, too_busy, too_busy_answers, cell_hinders, cell_hinders_answers, controller_past, controller_past_answers}
+use Rattle.cases.specs.Injected.{Parts, BoardAnswers}
 use Rattle.cases.specs.Registers.{RegistersAnswer}
 use Rattle.cases.specs.Boards.{three_devices, four_devices, short, later_edition, no_devices, near_table, same_names, self_link, circle}
 
@@ -60,6 +59,8 @@ pub data Case : Type 0 where
   refuses : List ℕ → BoardFault → List ℕ → Case
   -- a register bank that is made of these words answers these calls so
   registers : List ℕ → List Call → List (Result Reply BankFault) → Case
+  -- the bank of a board that is made of these parts answers these calls so
+  whole : Parts → List Call → List (Result Reply BankFault) → Case
 
 -- a board with these contents, or want of memory
 abbrev pub HasRead : Contents → Result Board ReadFault → Type 0
@@ -73,11 +74,12 @@ HasAnswered expected (Ok answers) = vec_items answers ≡ expected
 HasAnswered expected (Err (IsUnmade fault)) = ⊥
 HasAnswered expected (Err NoRoom) = Unit {0}
 
--- whatever answer the reader's contract, or that of `register_answers`, allows is the expected one
+-- whatever answer the reader's contract, or that of `register_answers` or `board_answers`, allows is the expected one
 abbrev pub Holds : Case → Type 0
 Holds (reads bytes expected printed) = (r : Result Board ReadFault) → Reads bytes r → HasRead expected r
 Holds (refuses bytes fault printed) = (r : Result Board ReadFault) → Reads bytes r → r ≡ Err (BrokenBy fault)
 Holds (registers words calls answers) = (r : Result (Vec (Result Reply BankFault) Global) MakeFault) → RegistersAnswer words calls r → HasAnswered answers r
+Holds (whole parts calls answers) = (r : Result (Vec (Result Reply BankFault) Global) MakeFault) → BoardAnswers parts calls r → HasAnswered answers r
 
 -- this order, and no refusal
 abbrev pub HasOrder : List ℕ → Result Order BoardFault → Type 0
@@ -89,6 +91,7 @@ abbrev pub IsChecked : Case → Type 0
 IsChecked (reads bytes expected printed) = (r : Result Order BoardFault) → Checks bytes r → HasOrder expected.order r
 IsChecked (refuses bytes fault printed) = (r : Result Order BoardFault) → Checks bytes r → r ≡ Err fault
 IsChecked (registers words calls answers) = Unit {0}
+IsChecked (whole parts calls answers) = Unit {0}
 
 -- this text, or want of memory
 abbrev pub HasPrinted : List ℕ → Result (String Global) ListFault → Type 0
@@ -101,6 +104,7 @@ abbrev pub IsPrinted : Case → Type 0
 IsPrinted (reads bytes expected shown) = (r : Result (String Global) ListFault) → Lists bytes r → HasPrinted shown r
 IsPrinted (refuses bytes fault shown) = (r : Result (String Global) ListFault) → Lists bytes r → (r ≡ Err (IsRefused (told fault))) × (printed r ≡ shown)
 IsPrinted (registers words calls answers) = Unit {0}
+IsPrinted (whole parts calls answers) = Unit {0}
 
 abbrev pub cases : List Case
 cases =
@@ -131,34 +135,16 @@ cases =
     ∷ refuses same_names (DeviceRecord 16) (codes "! 3 5 16\n")
     ∷ refuses self_link (LinkRecord 32) (codes "! 3 6 32\n")
     ∷ refuses circle (Circle 0) (codes "! 3 7 0\n")
-    -- clk goes down and comes back up
-    ∷ registers (0x21A1B2C3 ∷ []) (Look 0 ∷ Lower 0 ∷ Look 0 ∷ Lower 0 ∷ Look 0 ∷ Lower 0 ∷ Look 0 ∷ Lower 0 ∷ Look 0 ∷ Lower 0 ∷ Raise 0 ∷ Look 0 ∷ [])
-    (
-    Ok (Seen 0 0x21A1B2C3 0)
-    ∷ Ok (Code (pos 0))
-    ∷ Ok (Seen 1 0x21A1B2C3 0)
-    ∷ Ok (Code (pos 0))
-    ∷ Ok (Seen 2 0x21A10000 0)
-    ∷ Ok (Code (pos 0))
-    ∷ Ok (Seen 3 0x21000000 0)
-    ∷ Ok (Code (pos 0))
-    ∷ Ok (Seen 4 0 0)
-    ∷ Err (WrongLevel 0)
-    ∷ Ok (Code (pos 0))
-    ∷ Ok (Seen 3 0x21000000 0)
-    ∷ []
-    )
-    -- a device whose highest bit is set is busy at level 1
-    ∷ registers (0x80000000 ∷ []) (Look 0 ∷ Lower 0 ∷ Look 0 ∷ Lower 0 ∷ Look 0 ∷ Look 1 ∷ [])
-    (
-    Ok (Seen 0 0x80000000 0)
-    ∷ Ok (Code (pos 0))
-    ∷ Ok (Seen 1 0x80000000 16)
-    ∷ Ok (Code (neg_ℤ (pos 16)))
-    ∷ Ok (Seen 1 0x80000000 16)
-    ∷ Err (NoDevice 1)
-    ∷ []
-    )
+    ∷ registers (0x21A1B2C3 ∷ []) down_and_up down_and_up_answers
+    ∷ registers (0x80000000 ∷ []) too_busy too_busy_answers
+    ∷ whole
+    (record { registers = 0x21A1B2C3 ∷ []; buses = 0 ∷ 0x500 ∷ []; quiets = 7 ∷ []; cells = 0 ∷ 0 ∷ 0 ∷ 0 ∷ 0 ∷ 110 ∷ [] })
+    cell_hinders
+    cell_hinders_answers
+    ∷ whole
+    (record { registers = 0x80000000 ∷ []; buses = 0 ∷ 0x501 ∷ []; quiets = []; cells = [] })
+    controller_past
+    controller_past_answers
     ∷ []
 
 -- the board file of a case, if it has one
@@ -166,6 +152,7 @@ abbrev pub board_of : Case → Option (List ℕ)
 board_of (reads bytes expected printed) = Some bytes
 board_of (refuses bytes fault printed) = Some bytes
 board_of (registers words calls answers) = None
+board_of (whole parts calls answers) = None
 
 abbrev pub boards : List (List ℕ)
 boards = filter_map board_of cases

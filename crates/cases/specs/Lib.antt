@@ -1,3 +1,5 @@
 pub mod Boards
 pub mod Cases
 pub mod Registers
+pub mod Injected
+pub mod Calls

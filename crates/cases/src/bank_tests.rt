@@ -1,5 +1,5 @@
 // The worked calls of banks, made of running banks, and what their making hands back.
-use crate::register_answers;
+use crate::{board_answers, register_answers};
 use bank::bank::Bank;
 use bank::call::{Call, Reply};
 use bank::fault::{BankFault, MakeFault};
@@ -55,6 +55,27 @@ fn the_highest_bit_hinders(rt: HostRuntime) -> Result<(), Fail> {
         Ok(Reply::Code { code: 0 }),
         Ok(Reply::Code { code: -16 }),
         seen(1, 0x8000_0000, 16),
+    ];
+    assert!(rt; answers.as_slice() == expected.as_slice());
+    Ok(())
+}
+
+#[test]
+fn a_cell_hinders_in_a_whole_board(rt: HostRuntime) -> Result<(), Fail> {
+    let mut cells = Vec::new(rt.alloc());
+    cells.extend_from_slice(&[0, 0, 0, 0, 0, 110])?;
+    let lower = Call::Lower { device: 1 };
+    let look = Call::Look { device: 1 };
+    let calls = [Call::Count, lower, look, lower, look];
+    let answers = board_answers(rt.alloc(), &[0x21a1_b2c3], &[0, 0x500], &[7], cells, &calls)
+        .ok()
+        .ok_or("no answers")?;
+    let expected = [
+        Ok(Reply::Counted { count: 4 }),
+        Ok(Reply::Code { code: 0 }),
+        seen(1, 0, 110),
+        Ok(Reply::Code { code: -110 }),
+        seen(1, 0, 110),
     ];
     assert!(rt; answers.as_slice() == expected.as_slice());
     Ok(())

@@ -3,11 +3,16 @@
 
 ghost use Rattle.std.specs.Prelude.{◌≡◌, ◌<◌, ◌≤◌, [], length, MatchOption, slice_index_or};
 ghost use Rattle.cases.specs.Cases.{AllHold, AllChecked, AllPrinted, boards};
+ghost use Rattle.cases.specs.Injected.{BoardAnswers};
 ghost use Rattle.cases.specs.Registers.{RegistersAnswer};
 
 use bank::call::{Call, Reply};
 use bank::fault::{BankFault, MakeFault};
 use bank::playing::play;
+use banks::bus::bus_bank;
+use banks::injector::Injector;
+use banks::pair::Pair;
+use banks::quiet::quiet_bank;
 use banks::register::register_bank;
 use std::alloc::Global;
 
@@ -103,6 +108,23 @@ pub fn register_answers(
     ensures { RegistersAnswer words.now calls.now result }
 {
     let mut bank = register_bank(heap, words)?;
+    Ok(play(heap, &mut bank, calls)?)
+}
+
+// What the bank of a board with these words and cells answers to calls one after another.
+pub fn board_answers(
+    heap: Global,
+    registers: &[u32],
+    buses: &[u32],
+    quiets: &[u32],
+    cells: Vec<u8>,
+    calls: &[Call],
+) -> Result<Vec<Result<Reply, BankFault>>, MakeFault>
+    ensures { BoardAnswers (record { registers = registers.now; buses = buses.now; quiets = quiets.now; cells = cells.items }) calls.now result }
+{
+    let others = Pair::new(bus_bank(heap, buses)?, quiet_bank(heap, quiets)?)?;
+    let all = Pair::new(register_bank(heap, registers)?, others)?;
+    let mut bank = Injector::new(all, cells);
     Ok(play(heap, &mut bank, calls)?)
 }
 

@@ -18,6 +18,7 @@ use std::alloc::Global;
 
 impl FreeBank {
     // A device for each word, at level 0, with the hindrances of the first choice.
+    #[tactic(auto, using(bankrules::proofs::Freeing::free_made_count))]
     pub fn new(
         heap: Global,
         words: &[u32],
