@@ -55,11 +55,11 @@ impl Rule for Bus {
     ghost words = { bus_words };
 }
 
-// A bank of such devices.
+// A bank of such devices: of the kind `bus_kind`.
 pub type BusBank = Ruled<Bus>;
 
-#[tactic(auto, using(bankrules::proofs::Telling::members_held))]
 // A bus device for each word, at level 0.
+#[tactic(auto, using(bankrules::proofs::Telling::members_held))]
 pub fn bus_bank(heap: Global, words: &[u32]) -> Result<BusBank, MakeFault>
     ensures made { Makes ⟦<BusBank as Bank>⟧ (each_with_one words.now) (length words.now) result }
     ensures told { FirstWordsTell bus_word bus_kind words.now }

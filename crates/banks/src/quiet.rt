@@ -33,7 +33,7 @@ impl Rule for Quiet {
     ghost words = { quiet_words };
 }
 
-// A bank of such devices.
+// A bank of such devices: of the kind `quiet_kind`.
 pub type QuietBank = Ruled<Quiet>;
 
 // A quiet device for each word, at level 0.

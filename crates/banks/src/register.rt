@@ -45,7 +45,7 @@ impl Rule for Register {
     ghost words = { register_words };
 }
 
-// A bank of such devices.
+// A bank of such devices: of the kind `register_kind`.
 pub type RegisterBank = Ruled<Register>;
 
 // A register device for each word, at level 0.
