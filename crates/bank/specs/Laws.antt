@@ -27,6 +27,13 @@ pub record Kind (M : Type 0) : Type 1 where
   -- what a bank of this kind keeps
   pub sound : M → Type 0
 
+-- two kinds that show the same devices and make the same of each call
+pub record SameKind {M : Type 0} (one other : Kind M) : Type 0 where
+  pub devices : one.devices ≡ other.devices
+  pub lowered : one.lowered ≡ other.lowered
+  pub raised : one.raised ≡ other.raised
+  pub written : one.written ≡ other.written
+
 -- what every kind keeps to, with hindrances up to the limit
 pub record Laws {M : Type 0} (limit : ℕ) (kind : Kind M) : Type 0 where
   pub means : (m : M) → kind.sound m → AreDevices limit (kind.devices m)

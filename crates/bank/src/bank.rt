@@ -5,10 +5,15 @@ ghost use Rattle.bank.specs.Meaning.{greatest_errno, seen, put_answer, lower_ans
 use crate::fault::BankFault;
 
 // A fixed count of devices, 0 to 64, behind one set of calls. Each device has a pile of one to five words, of which the top is its
-// working word, and a hindrance, the errno with which it refuses to be lowered. Its level is the number of its words less one.
+// working word, and a hindrance, the errno that it answers, negated, where it is lowered and something hinders it; 0 is none. Its
+// level is the number of its words less one.
 //
 // Each implementation says by its ghost members what a bank of its kind does; the contracts of the calls then say exactly what is
-// answered and what the bank is afterwards. Of any bank at all its law is known.
+// answered and what the bank's model is afterwards, in which lies all that it will ever answer. Of any bank at all the laws below
+// are known.
+//
+// A call for a number that is not below the count is refused with `NoDevice`, before anything else is tested. A call that is
+// refused changes nothing.
 pub trait Bank {
     // What the answers of the bank depend on, as a value of the kind's own choice.
     ghost Model: { Type 0 };
@@ -27,18 +32,18 @@ pub trait Bank {
     fn look(&self, device: u8) -> Result<(u8, u32, u8), BankFault>
         ensures { result ≡ seen (kind.devices (model self.now)) device };
 
-    // Another working word for a device at level 0. At another level nothing changes.
+    // Another working word for a device at level 0. Refused with `WrongLevel` at another level.
     fn put(&mut self, device: u8, word: u32) -> Result<(), BankFault>
         ensures answer { result ≡ put_answer (kind.devices (model self.old)) device }
         ensures after { model self.new ≡ (if is_put (kind.devices (model self.old)) device then kind.written (model self.old) device word else model self.old) };
 
-    // One level deeper. The code is 0 where that is done, and otherwise the hindrance negated; then nothing changes. Nor does
-    // anything at level 4, where the call is refused.
+    // One level deeper. The code is 0 where that is done, and otherwise the hindrance negated; then nothing changes. Refused with
+    // `WrongLevel` at level 4, whatever the hindrance.
     fn lower(&mut self, device: u8) -> Result<i16, BankFault>
         ensures answer { result ≡ lower_answer (kind.devices (model self.old)) device }
         ensures after { model self.new ≡ (if is_lowered (kind.devices (model self.old)) device then kind.lowered (model self.old) device else model self.old) };
 
-    // One level up; the code is 0. At level 0 nothing changes.
+    // One level up; the code is 0. Refused with `WrongLevel` at level 0.
     fn raise(&mut self, device: u8) -> Result<i16, BankFault>
         ensures answer { result ≡ raise_answer (kind.devices (model self.old)) device }
         ensures after { model self.new ≡ (if is_raised (kind.devices (model self.old)) device then kind.raised (model self.old) device else model self.old) };

@@ -1,5 +1,5 @@
 // Calls of any bank, made one after another.
-ghost use Rattle.std.specs.Prelude.{◌≡◌, [], ◌∷◌, IfOk, OnOk, OnErr};
+ghost use Rattle.std.specs.Prelude.{◌≡◌, [], ◌∷◌, length, IfOk, OnOk, OnErr};
 ghost use Rattle.bank.specs.Behaviour.{Behaves};
 ghost use Rattle.bank.specs.Runs.{Plays, answer_to, after, after_all};
 
@@ -13,6 +13,7 @@ impl Call {
     pub fn make<B: Bank>(self, bank: &mut B) -> Result<Reply, BankFault>
         ensures answer { result ≡ answer_to (B.kind.devices (B.model bank.old)) self }
         ensures after { B.model bank.new ≡ after B.kind (B.model bank.old) self }
+        ensures count { length (B.kind.devices (B.model bank.new)) ≡ length (B.kind.devices (B.model bank.old)) }
         ensures behaves { Behaves (B.kind.devices (B.model bank.old)) (self ∷ []) (result ∷ []) (B.kind.devices (B.model bank.new)) }
     {
         Ok(match self {
@@ -41,7 +42,7 @@ impl Call {
     }
 }
 
-// Makes calls of a bank in their order. Where there is no memory for the answers, none is made.
+// Makes calls of a bank in their order. Where there is no memory for the answers, the bank stays as it was.
 pub fn play<B: Bank>(
     heap: Global,
     bank: &mut B,
@@ -50,6 +51,7 @@ pub fn play<B: Bank>(
     ensures answers { Plays B.kind (B.model bank.old) calls.now result }
     ensures after { OnOk result (B.model bank.new ≡ after_all B.kind (B.model bank.old) calls.now) }
     ensures behaves { IfOk result (λ answers. Behaves (B.kind.devices (B.model bank.old)) calls.now answers.items (B.kind.devices (B.model bank.new))) }
+    ensures count { length (B.kind.devices (B.model bank.new)) ≡ length (B.kind.devices (B.model bank.old)) }
     ensures none { OnErr result (B.model bank.new ≡ B.model bank.old) }
 {
     let mut answers = Vec::with_capacity(heap, calls.len())?;

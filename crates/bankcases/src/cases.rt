@@ -63,10 +63,10 @@ fn print_bank<B: Made>(rt: &HostRuntime, bytes: &mut Bytes) -> anyhow::Result<()
 
 type Controlled = Pair<RegisterBank, BusBank>;
 
-type Standing = Pair<BusBank, QuietBank>;
+type Others = Pair<BusBank, QuietBank>;
 
 // The bank of a board.
-type Board = Injector<Pair<RegisterBank, Standing>>;
+type Board = Injector<Pair<RegisterBank, Others>>;
 
 type Both = Injector<Pair<Injector<BusBank>, Injector<RegisterBank>>>;
 
@@ -77,7 +77,7 @@ pub fn print_case(rt: &HostRuntime, bytes: &mut Bytes) -> anyhow::Result<()> {
         2 => print_bank::<QuietBank>(rt, bytes),
         3 => print_bank::<Controlled>(rt, bytes),
         4 => print_bank::<Pair<Controlled, QuietBank>>(rt, bytes),
-        5 => print_bank::<Pair<RegisterBank, Standing>>(rt, bytes),
+        5 => print_bank::<Pair<RegisterBank, Others>>(rt, bytes),
         6 => print_bank::<Injector<BusBank>>(rt, bytes),
         7 => print_bank::<Board>(rt, bytes),
         8 => print_bank::<Both>(rt, bytes),

@@ -1,6 +1,6 @@
 -- Injected errnos: the words are those below, and the laws are kept within any limit.
-use Rattle.std.proofs.Common.{◌≡◌, ℕ, true, zero, suc, ◌+◌, ◌-◌, ◌*◌, ◌<◌, ◌≤◌, ◌^◌, List, [], ◌∷◌, length, get_or, All, refl, sym, ap, ◌∙◌, ◌⊎◌, inl, inr, arith}
-use Rattle.std.proofs.lemmas.List.{get_or_past}
+use Rattle.std.proofs.Common.{◌≡◌, ℕ, true, zero, suc, ◌+◌, ◌-◌, ◌*◌, ◌<◌, ◌≤◌, ◌^◌, List, [], ◌∷◌, ◌++◌, cond, eqb, length, get_or, All, refl, sym, ap, ◌∙◌, ◌⊎◌, inl, inr, arith}
+use Rattle.std.proofs.lemmas.List.{get_or_append_left, get_or_past}
 use Rattle.std.proofs.lemmas.Bool.{cases_lt}
 use Rattle.std.proofs.lemmas.List.Elements.{All-from_get_or, All-weaker}
 use Rattle.bank.specs.Meaning.{hindrance, greatest_errno, Device, absent, device, pile, piles, level, deepest, put_answer, raise_answer, is_lowered, is_raised, is_put, AreDevices}
@@ -148,10 +148,26 @@ untouched cells ds d none = go (cases_lt d (length ds))
 touched : (cells : List ℕ) (ds : List Device) (d : ℕ) → d < length ds → level ds d < deepest → 0 < get_or cells (4 * d + level ds d) 0 → hindrance (injected cells 0 ds) d ≡ get_or cells (4 * d + level ds d) 0
 touched cells ds d h low some = ap (λ (x : Device). x.hindrance) (injected_device cells ds d h) ∙ (grind arith)
 
+-- a cell of one of the first devices does not depend on what follows
+same_cell : (cells more : List ℕ) (d l n : ℕ) → d < n → 4 * n ≤ length cells → cell_into_next (cells ++ more) d l ≡ cell_into_next cells d l
+same_cell cells more d l n h long = go (cases_lt l deepest)
+  where
+    go : (l < deepest) ⊎ (deepest ≤ l) → cell_into_next (cells ++ more) d l ≡ cell_into_next cells d l
+    go (inl low) = let e = get_or_append_left cells more 0 (4 * d + l) (omega arith) in grind arith
+    go (inr deep) = grind arith
+
+cells_past : (cells more : List ℕ) (d : ℕ) (ds : List Device) → 4 * (d + length ds) ≤ length cells → injected (cells ++ more) d ds ≡ injected cells d ds
+cells_past cells more d [] long = refl
+cells_past cells more d (x ∷ xs) long =
+    let e : overlaid (cells ++ more) d x ≡ overlaid cells d x = ap (λ c. record { words = x.words; hindrance = cond (eqb c 0) x.hindrance c }) (same_cell cells more d (length x.words - 1) (d + suc (length xs)) (omega arith) long) in
+    ap (λ (y : Device). y ∷ injected (cells ++ more) (suc d) xs) e ∙ ap (λ (ys : List Device). overlaid cells d x ∷ ys) (cells_past cells more (suc d) xs (omega arith))
+
 module _ {M : Type 0} (limit : ℕ) (below : Kind M) where
   pub injector_over : Over limit below
   injector_over = record {
+    count = λ m. injected_count m.1 (below.devices m.0);
     words = λ m. injected_piles m.1 (below.devices m.0);
+    past = λ m cells more long. cells_past cells more 0 (below.devices m) (omega arith);
     cell = λ m d h low some. touched m.1 (below.devices m.0) d h low some;
     no_cell = λ m d none. untouched m.1 (below.devices m.0) d (no_cell_none m.1 d (level (below.devices m.0) d) none);
     bottom = λ m d deep. untouched m.1 (below.devices m.0) d (no_cell_deep m.1 d (level (below.devices m.0) d) deep);

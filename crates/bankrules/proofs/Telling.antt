@@ -69,7 +69,7 @@ free_member piles d some inside deep past free =
     let e3 : (standing piles d).level < (standing piles d).first_level = omega (arith, c, l) in
     grind arith
 
-pub members_held : MembersHeld
+pub members_held : MembersHeld bus_kind
 members_held piles d some deep past =
     false_from_ne_true _ (λ t. let parts = lowered_parts (devices_of bus_hinders piles) d t in free_member piles d some (omega (arith, parts.0, ruled_count bus_hinders piles)) deep past parts.2)
 

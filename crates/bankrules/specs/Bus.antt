@@ -33,8 +33,7 @@ bus_word first level = if nat_lt level 4 then first else 0
 abbrev pub bus_kind : Kind (List (List ℕ))
 bus_kind = ruled_kind bus_hinders bus_adds
 
--- once its controller is at level 2 or deeper, and deeper than it, no member is lowered
-abbrev pub MembersHeld : Type 0
-MembersHeld =
-    (piles : List (List ℕ)) (d : ℕ) → 0 < d → 2 ≤ level (bus_kind.devices piles) 0 → level (bus_kind.devices piles) d < level (bus_kind.devices piles) 0
-    → is_lowered (bus_kind.devices piles) d ≡ false
+-- in banks of this kind, while the controller is at level 2 or deeper, and deeper than a member, that member is not lowered
+abbrev pub MembersHeld : Kind (List (List ℕ)) → Type 0
+MembersHeld kind =
+    (m : List (List ℕ)) (d : ℕ) → 0 < d → 2 ≤ level (kind.devices m) 0 → level (kind.devices m) d < level (kind.devices m) 0 → is_lowered (kind.devices m) d ≡ false

@@ -1,5 +1,5 @@
 -- Errnos that are injected over the hindrances of another bank.
-use Rattle.std.specs.Prelude.{◌≡◌, ℕ, suc, ◌+◌, ◌-◌, ◌*◌, ◌<◌, ◌≤◌, ◌==◌, nat_lt, if◌then◌else◌, List, [], ◌∷◌, length, slice_index_or, All}
+use Rattle.std.specs.Prelude.{◌≡◌, ℕ, suc, ◌+◌, ◌-◌, ◌*◌, ◌<◌, ◌≤◌, ◌==◌, nat_lt, if◌then◌else◌, List, [], ◌∷◌, ◌++◌, length, slice_index_or, All}
 use Rattle.bank.specs.Laws.{Kind}
 use Rattle.bank.specs.Meaning.{Device, device, piles, level, hindrance, deepest}
 
@@ -36,6 +36,7 @@ injector_kind limit below =
 
 -- What an injector shows of a bank: the words below, and what a cell injects where it is not zero
 pub record Over {M : Type 0} (limit : ℕ) (below : Kind M) : Type 0 where
+  pub count : (m : M × List ℕ) → length ((injector_kind limit below).devices m) ≡ length (below.devices m.0)
   pub words : (m : M × List ℕ) → piles ((injector_kind limit below).devices m) ≡ piles (below.devices m.0)
   pub cell : (m : M × List ℕ) (d : ℕ) → d < length (below.devices m.0) → level (below.devices m.0) d < deepest → 0 < slice_index_or m.1 (4 * d + level (below.devices m.0) d) 0
       → hindrance ((injector_kind limit below).devices m) d ≡ slice_index_or m.1 (4 * d + level (below.devices m.0) d) 0
@@ -44,3 +45,5 @@ pub record Over {M : Type 0} (limit : ℕ) (below : Kind M) : Type 0 where
   pub bottom : (m : M × List ℕ) (d : ℕ) → deepest ≤ level (below.devices m.0) d → device ((injector_kind limit below).devices m) d ≡ device (below.devices m.0) d
   -- where no cell injects, it shows what is shown below
   pub idle : (m : M × List ℕ) → All (λ c. c ≡ 0) m.1 → (injector_kind limit below).devices m ≡ below.devices m.0
+  -- cells past those of the devices have no effect
+  pub past : (m : M) (cells more : List ℕ) → 4 * length (below.devices m) ≤ length cells → (injector_kind limit below).devices (m, cells ++ more) ≡ (injector_kind limit below).devices (m, cells)

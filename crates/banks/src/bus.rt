@@ -1,5 +1,6 @@
 // Devices that sit on a bus, with device 0 as its controller.
 ghost use Rattle.std.specs.Prelude.{◌≡◌, length};
+ghost use Rattle.bank.specs.Laws.{SameKind};
 ghost use Rattle.bank.specs.Makings.{Makes};
 ghost use Rattle.bankrules.specs.Rules.{each_with_one, FirstWordsTell};
 ghost use Rattle.bankrules.specs.Bus.{passed, bus_hinders, bus_adds, bus_kind, bus_word, MembersHeld};
@@ -55,15 +56,16 @@ impl Rule for Bus {
     ghost words = { bus_words };
 }
 
-// A bank of such devices: of the kind `bus_kind`.
+// A bank of such devices.
 pub type BusBank = Ruled<Bus>;
 
 // A bus device for each word, at level 0.
 #[tactic(auto, using(bankrules::proofs::Telling::members_held))]
 pub fn bus_bank(heap: Global, words: &[u32]) -> Result<BusBank, MakeFault>
     ensures made { Makes ⟦<BusBank as Bank>⟧ (each_with_one words.now) (length words.now) result }
-    ensures told { FirstWordsTell bus_word bus_kind words.now }
-    ensures held { MembersHeld }
+    ensures kind { SameKind ⟦<BusBank as Bank>⟧.kind bus_kind }
+    ensures first_words { FirstWordsTell bus_word ⟦<BusBank as Bank>⟧.kind words.now }
+    ensures members { MembersHeld ⟦<BusBank as Bank>⟧.kind }
 {
     Ruled::new(heap, words)
 }

@@ -1,5 +1,6 @@
 // Errnos that are injected over another bank.
 ghost use Rattle.std.specs.Prelude.{◌≡◌, ◌<◌, ◌≤◌, ◌+◌, ◌++◌, length, slice_index_or, List, ℕ, All};
+ghost use Rattle.bank.specs.Laws.{SameKind};
 ghost use Rattle.bank.specs.Meaning.{greatest_errno, deepest};
 ghost use Rattle.bankrules.specs.Injections.{Over, cell_into_next, injector_kind, AreCells};
 ghost use Rattle.bankrules.proofs.Injecting.{injector_lawful};
@@ -25,10 +26,11 @@ fn cell_at(cells: &[u8], place: usize) -> u8
 }
 
 impl<B: Bank> Injector<B> {
-    // Byte 4 * d + p - 1 is the cell of device d for level p. Cells that are missing count as 0.
+    // Byte 4 * d + p - 1 is the cell of device d for level p. Cells that are missing count as 0, and any past
+    // those of the bank's devices have no effect.
     pub fn new(bank: B, cells: Vec<u8>) -> Injector<B>
-        ensures bank { result.bank ≡ bank }
-        ensures cells { result.cells.items ≡ cells.items }
+        ensures made { ⟦<Injector<B> as Bank>⟧.model result ≡ (B.model bank, cells.items) }
+        ensures kind { SameKind ⟦<Injector<B> as Bank>⟧.kind (injector_kind greatest_errno B.kind) }
         ensures over { Over greatest_errno B.kind }
     {
         Injector { bank, cells }

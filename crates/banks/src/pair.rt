@@ -1,5 +1,6 @@
 // Two banks as one.
-ghost use Rattle.std.specs.Prelude.{◌≡◌, ◌<◌, ◌≤◌, ◌+◌, ◌-◌, if◌then◌else◌, nat_lt, ◌↔◌, length, IsErr, MatchResult};
+ghost use Rattle.std.specs.Prelude.{◌≡◌, ◌<◌, ◌≤◌, ◌+◌, ◌-◌, if◌then◌else◌, nat_lt, ◌↔◌, length, IfErr, IfOk, IsErr};
+ghost use Rattle.bank.specs.Laws.{SameKind};
 ghost use Rattle.bank.specs.Meaning.{greatest_errno, most_devices};
 ghost use Rattle.bank.specs.declared.fault.BankFault.TheVariants.{TooMany as Many};
 ghost use Rattle.bank.specs.declared.fault.MakeFault.TheVariants.{Bank as Refused};
@@ -39,8 +40,10 @@ impl<L: Bank + Drop, R: Bank + Drop> From<Unpaired<L, R>> for MakeFault {
 impl<L: Bank, R: Bank> Pair<L, R> {
     // Refused where there are more than 64 devices; both banks are then handed back.
     pub fn new(left: L, right: R) -> Result<Pair<L, R>, Unpaired<L, R>>
-        ensures parts { MatchResult result (λ pair. (pair.left ≡ left) × (pair.right ≡ right)) (λ parts. (parts.left ≡ left) × (parts.right ≡ right) × (parts.fault ≡ Many)) }
+        ensures made { IfOk result (λ pair. ⟦<Pair<L, R> as Bank>⟧.model pair ≡ (L.model left, R.model right)) }
+        ensures parts { IfErr result (λ parts. (parts.left ≡ left) × (parts.right ≡ right) × (parts.fault ≡ Many)) }
         ensures many { IsErr result ↔ (most_devices < length (L.kind.devices (L.model left)) + length (R.kind.devices (R.model right))) }
+        ensures kind { SameKind ⟦<Pair<L, R> as Bank>⟧.kind (pair_kind L.kind R.kind) }
         ensures apart { Apart L.kind R.kind }
     {
         let count = u16::from(left.count()) + u16::from(right.count());

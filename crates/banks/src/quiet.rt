@@ -1,5 +1,6 @@
 // Devices that stand in for a part that nobody has chosen yet.
 ghost use Rattle.std.specs.Prelude.{length};
+ghost use Rattle.bank.specs.Laws.{SameKind};
 ghost use Rattle.bank.specs.Makings.{Makes};
 ghost use Rattle.bankrules.specs.Rules.{each_with_one, FirstWordsTell};
 ghost use Rattle.bankrules.specs.Quiet.{quiet_hinders, quiet_adds, quiet_kind, quiet_word};
@@ -33,13 +34,14 @@ impl Rule for Quiet {
     ghost words = { quiet_words };
 }
 
-// A bank of such devices: of the kind `quiet_kind`.
+// A bank of such devices.
 pub type QuietBank = Ruled<Quiet>;
 
 // A quiet device for each word, at level 0.
 pub fn quiet_bank(heap: Global, words: &[u32]) -> Result<QuietBank, MakeFault>
     ensures made { Makes ⟦<QuietBank as Bank>⟧ (each_with_one words.now) (length words.now) result }
-    ensures told { FirstWordsTell quiet_word quiet_kind words.now }
+    ensures kind { SameKind ⟦<QuietBank as Bank>⟧.kind quiet_kind }
+    ensures first_words { FirstWordsTell quiet_word ⟦<QuietBank as Bank>⟧.kind words.now }
 {
     Ruled::new(heap, words)
 }

@@ -1,5 +1,6 @@
 // Devices that sit in registers.
 ghost use Rattle.std.specs.Prelude.{length};
+ghost use Rattle.bank.specs.Laws.{SameKind};
 ghost use Rattle.bank.specs.Makings.{Makes};
 ghost use Rattle.bankrules.specs.Rules.{each_with_one, FirstWordsTell};
 ghost use Rattle.bankrules.specs.Register.{register_hinders, register_adds, register_kind, register_word};
@@ -45,13 +46,14 @@ impl Rule for Register {
     ghost words = { register_words };
 }
 
-// A bank of such devices: of the kind `register_kind`.
+// A bank of such devices.
 pub type RegisterBank = Ruled<Register>;
 
 // A register device for each word, at level 0.
 pub fn register_bank(heap: Global, words: &[u32]) -> Result<RegisterBank, MakeFault>
     ensures made { Makes ⟦<RegisterBank as Bank>⟧ (each_with_one words.now) (length words.now) result }
-    ensures told { FirstWordsTell register_word register_kind words.now }
+    ensures kind { SameKind ⟦<RegisterBank as Bank>⟧.kind register_kind }
+    ensures first_words { FirstWordsTell register_word ⟦<RegisterBank as Bank>⟧.kind words.now }
 {
     Ruled::new(heap, words)
 }

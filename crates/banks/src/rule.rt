@@ -4,7 +4,7 @@ ghost use Rattle.bankrules.specs.declared.standing.Standing.{Standing};
 
 use bankrules::standing::Standing;
 
-// What the devices of a bank keep to. Nothing of it depends on the bank's state, so its functions take no `self`.
+// What the devices of a bank keep to. A rule has no state of its own, so its functions take no `self`.
 pub trait Rule {
     // The errno that hinders a device which stands so, 0 for none.
     ghost hinders: { Standing → ℕ };

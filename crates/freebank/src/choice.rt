@@ -1,5 +1,5 @@
 // What a free bank chooses at a change.
-ghost use Rattle.std.specs.Prelude.{◌≡◌, ◌<◌, ◌≤◌, ◌^◌, All};
+ghost use Rattle.std.specs.Prelude.{◌≡◌, ℕ, ◌<◌, ◌≤◌, ◌^◌, All, slice_index_or};
 ghost use Rattle.bank.specs.Meaning.{greatest_errno};
 
 #[derive(Clone, Copy)]
@@ -20,14 +20,16 @@ pub const LAST: Choice = Choice {
 
 // The byte at a place, 0 where there is none.
 fn byte_at(bytes: &[u8], place: usize) -> u8
-    ensures { result ≤ greatest_errno }
+    ensures byte { result ≡ slice_index_or bytes.now place 0 }
+    ensures fits { result ≤ greatest_errno }
 {
     bytes.get(place).copied().unwrap_or(0)
 }
 
 // The errnos of 64 devices; 0 where no byte is given.
 fn errnos(bytes: &[u8]) -> [u8; 64]
-    ensures { All (λ e. e ≤ greatest_errno) result }
+    ensures fit { All (λ e. e ≤ greatest_errno) result }
+    ensures bytes { (k : ℕ) → k < 64 → slice_index_or result k 0 ≡ slice_index_or bytes.now k 0 }
 {
     let mut errnos = [0; 64];
     for place in 0..64 {
@@ -39,7 +41,8 @@ fn errnos(bytes: &[u8]) -> [u8; 64]
 impl Choice {
     // This word, and a byte for what hinders each device.
     pub fn new(word: u32, hindrances: &[u8]) -> Choice
-        ensures { result.word ≡ word }
+        ensures word { result.word ≡ word }
+        ensures hindrances { (k : ℕ) → k < 64 → slice_index_or result.hindrances k 0 ≡ slice_index_or hindrances.now k 0 }
     {
         Choice {
             word,

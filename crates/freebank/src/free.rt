@@ -1,5 +1,5 @@
-// A bank that chooses freely, as far as the meaning of a bank allows. It stands for every bank that is not known, and shows that
-// the trait leaves the new top and the hindrances to the bank.
+// A bank for which the word that a lowering adds, and the hindrances after each change, are chosen outside: all that the meaning
+// of a bank leaves to it.
 mod calls;
 
 ghost use Rattle.bank.specs.Meaning.{greatest_errno};

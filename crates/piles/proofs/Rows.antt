@@ -4,7 +4,7 @@ use Rattle.std.proofs.lemmas.List.{length-map, get_or-map, set_past, map-set, ma
 use Rattle.std.proofs.lemmas.List.Elements.{All-map}
 use Rattle.bank.specs.Meaning.{IsPile, ArePiles}
 use Rattle.piles.specs.declared.piles.Piles.{Piles}
-use Rattle.piles.specs.Piles.{words_of}
+use Rattle.piles.specs.Words.{words_of}
 use Rattle.piles.specs.Tables.{words_in}
 use Rattle.piles.proofs.Stacks.{pile_is}
 

@@ -4,7 +4,7 @@ use Rattle.std.proofs.lemmas.List.{length-reverse, get_or-reverse, reverse-appen
 use Rattle.std.proofs.lemmas.List.Elements.{All-take, All-from_get_or}
 use Rattle.bank.specs.Meaning.{IsPile}
 use Rattle.piles.specs.declared.pile.Pile.{Pile}
-use Rattle.piles.specs.Piles.{words_of}
+use Rattle.piles.specs.Words.{words_of}
 
 -- the top, and what lies below it
 pub stack_top : (words : List ℕ) (l : ℕ) → l < length words → reverse (take (l + 1) words) ≡ get_or words l 0 ∷ reverse (take l words)

@@ -1,2 +1,2 @@
-pub mod Piles
+pub mod Words
 pub mod Tables

@@ -4,7 +4,7 @@ use Rattle.bank.specs.declared.fault.BankFault.TheVariants.{TooMany}
 use Rattle.bank.specs.declared.fault.MakeFault.{MakeFault}
 use Rattle.bank.specs.declared.fault.MakeFault.TheVariants.{Bank as Refused, Memory}
 use Rattle.bank.specs.Meaning.{most_devices}
-use Rattle.piles.specs.Piles.{words_of}
+use Rattle.piles.specs.Words.{words_of}
 use Rattle.piles.specs.declared.piles.Piles.{Piles}
 
 -- the words of each device, the newest first

@@ -1,5 +1,6 @@
 // What a free bank answers, and what it chooses.
 ghost use Rattle.std.specs.Prelude.{◌≡◌, drop, length, map, slice_index_or};
+ghost use Rattle.bank.specs.Laws.{SameKind};
 ghost use Rattle.bank.specs.Makings.{Makes};
 ghost use Rattle.bank.specs.Meaning.{greatest_errno};
 ghost use Rattle.bankrules.specs.Free.{AreErrnos, Free, free_kind, next_choice};
@@ -25,7 +26,8 @@ impl FreeBank {
         first: Choice,
         choices: Vec<Choice>,
     ) -> Result<FreeBank, MakeFault>
-        ensures { Makes ⟦<FreeBank as Bank>⟧ (record { piles = each_with_one words.now; hindrances = first.hindrances; choices = map chosen choices.items }) (length words.now) result }
+        ensures made { Makes ⟦<FreeBank as Bank>⟧ (record { piles = each_with_one words.now; hindrances = first.hindrances; choices = map chosen choices.items }) (length words.now) result }
+        ensures kind { SameKind ⟦<FreeBank as Bank>⟧.kind (free_kind greatest_errno) }
     {
         Ok(FreeBank {
             piles: Piles::new(heap, words)?,

@@ -1,12 +1,12 @@
 // What a pile holds, and how it changes.
 ghost use Rattle.std.specs.Prelude.{◌≡◌, ◌+◌, ◌-◌, ◌<◌, ◌≤◌, [], ◌∷◌, length, drop, slice_index_or, MatchOption};
-ghost use Rattle.piles.specs.Piles.{words_of};
+ghost use Rattle.piles.specs.Words.{words_of};
 
 use crate::pile::Pile;
 
 impl Pile {
     // One word, so level 0.
-    #[tactic(auto, unfolding(crate::specs::Piles::words_of))]
+    #[tactic(auto, unfolding(crate::specs::Words::words_of))]
     pub fn new(word: u32) -> Pile
         ensures { words_of result ≡ word ∷ [] }
     {
@@ -16,7 +16,7 @@ impl Pile {
         }
     }
 
-    #[tactic(auto, using(crate::proofs::Stacks::stack_length), unfolding(crate::specs::Piles::words_of))]
+    #[tactic(auto, using(crate::proofs::Stacks::stack_length), unfolding(crate::specs::Words::words_of))]
     pub fn level(self) -> u8
         ensures { result + 1 ≡ length (words_of self) }
     {
@@ -24,7 +24,7 @@ impl Pile {
     }
 
     // The working word.
-    #[tactic(auto, using(crate::proofs::Stacks::stack_top), unfolding(crate::specs::Piles::words_of))]
+    #[tactic(auto, using(crate::proofs::Stacks::stack_top), unfolding(crate::specs::Words::words_of))]
     pub fn top(self) -> u32
         ensures { result ≡ slice_index_or (words_of self) 0 0 }
     {
@@ -33,7 +33,7 @@ impl Pile {
     }
 
     // With another word in place of its only one; nothing where there are more.
-    #[tactic(auto, using(crate::proofs::Stacks::stack_length), unfolding(crate::specs::Piles::words_of))]
+    #[tactic(auto, using(crate::proofs::Stacks::stack_length), unfolding(crate::specs::Words::words_of))]
     pub fn with(self, word: u32) -> Option<Pile>
         ensures { MatchOption result (1 < length (words_of self)) (λ pile. (length (words_of self) ≡ 1) × (words_of pile ≡ word ∷ [])) }
     {
@@ -44,7 +44,7 @@ impl Pile {
     }
 
     // With one word more on top; nothing at the deepest level.
-    #[tactic(auto, using(crate::proofs::Stacks::stack_length, crate::proofs::Stacks::stack_push), unfolding(crate::specs::Piles::words_of))]
+    #[tactic(auto, using(crate::proofs::Stacks::stack_length, crate::proofs::Stacks::stack_push), unfolding(crate::specs::Words::words_of))]
     pub fn pushed(mut self, word: u32) -> Option<Pile>
         ensures { MatchOption result (5 ≤ length (words_of self)) (λ pile. (length (words_of self) < 5) × (words_of pile ≡ word ∷ words_of self)) }
     {
@@ -57,7 +57,7 @@ impl Pile {
     }
 
     // Without its top; nothing at level 0.
-    #[tactic(auto, using(crate::proofs::Stacks::stack_length, crate::proofs::Stacks::stack_pop), unfolding(crate::specs::Piles::words_of))]
+    #[tactic(auto, using(crate::proofs::Stacks::stack_length, crate::proofs::Stacks::stack_pop), unfolding(crate::specs::Words::words_of))]
     pub fn popped(mut self) -> Option<Pile>
         ensures { MatchOption result (length (words_of self) ≤ 1) (λ pile. (1 < length (words_of self)) × (words_of pile ≡ drop 1 (words_of self))) }
     {

@@ -13,6 +13,7 @@ invariant-loop-call g l =
       room : length l.calls ≤ vec_capacity l.answers;
       count : vec_len l.answers ≡ l.call-index;
       answers : l.answers.items ++ answers_to kind m (drop l.call-index l.calls) ≡ answers_to kind first l.calls;
+      devices : length (kind.devices m) ≡ length (kind.devices first);
       behaves : Behaves (kind.devices first) (take l.call-index l.calls) l.answers.items (kind.devices m);
       after : after_all kind m (drop l.call-index l.calls) ≡ after_all kind first l.calls;
     }

@@ -3,5 +3,5 @@ use Rattle.std.proofs.lemmas.List.Elements.{All-from_get_or}
 use Rattle.bankrules.proofs.Telling.{quiet_told}
 use Rattle.banks.proofs.quiet.quiet_bank.Goals as goal
 
-pub returns-clause-told : goal.returns-clause-told
-returns-clause-told c = quiet_told c.args.words.now (All-from_get_or (λ w. w < 2 ^ 32) c.args.words.now 0 (λ i h. omega (arith, c.type_inv.words i)))
+pub returns-clause-first_words : goal.returns-clause-first_words
+returns-clause-first_words c = quiet_told c.args.words.now (All-from_get_or (λ w. w < 2 ^ 32) c.args.words.now 0 (λ i h. omega (arith, c.type_inv.words i)))

@@ -1,5 +1,5 @@
 use Rattle.std.proofs.Common.{◌≡◌, ℕ, [], ◌∷◌, map, take, vec_len}
-use Rattle.piles.specs.Piles.{words_of}
+use Rattle.piles.specs.Words.{words_of}
 use Rattle.piles.proofs.piles.Piles.new.Given as goal
 
 -- the first devices have their words
