@@ -1,9 +1,6 @@
 -- When a call changes something, taken apart.
 use Rattle.std.proofs.Common.{◌≡◌, ℕ, true, ◌<◌, List, length, arith}
-use Rattle.bank.specs.Meaning.{Device, level, hindrance, deepest, is_put, is_lowered, is_raised}
-
-pub put_parts : (devices : List Device) (d : ℕ) → is_put devices d ≡ true → (d < length devices) × (level devices d ≡ 0)
-put_parts devices d t = grind arith
+use Rattle.bank.specs.Meaning.{Device, level, hindrance, deepest, is_lowered, is_raised}
 
 pub lowered_parts : (devices : List Device) (d : ℕ) → is_lowered devices d ≡ true → (d < length devices) × (level devices d < deepest) × (hindrance devices d ≡ 0)
 lowered_parts devices d t = grind arith

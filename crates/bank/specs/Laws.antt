@@ -2,7 +2,9 @@
 use Rattle.std.specs.Prelude.{◌≡◌, ℕ, ◌<◌, ◌^◌, true, List, [], ◌∷◌, drop, set}
 use Rattle.bank.specs.Meaning.{Device, AreDevices, pile, piles, is_put, is_lowered, is_raised}
 
--- The pile of device d gains one word on top, whichever the bank chooses, and no other pile changes. Hindrances are free.
+-- Three changes. Each speaks of piles alone: the hindrances of all devices may be others afterwards.
+
+-- the pile of device d gains one word on top, whichever the bank chooses, and no other pile changes
 abbrev pub GainsWord : List Device → ℕ → List Device → Type 0
 GainsWord before d after = (w : ℕ) × (piles after ≡ set (piles before) d (w ∷ pile before d))
 

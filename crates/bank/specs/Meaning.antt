@@ -66,7 +66,7 @@ lower_answer devices d = if_known devices d (if_level (nat_lt (level devices d) 
 abbrev pub raise_answer : List Device → ℕ → Result ℤ BankFault
 raise_answer devices d = if_known devices d (if_level (nat_lt 0 (level devices d)) d (pos 0))
 
--- ---- which calls change something: those that are neither refused nor answered by another code than 0
+-- ---- which puts, lowerings and raisings change something: those that are neither refused nor answered by another code than 0
 
 abbrev pub is_put : List Device → ℕ → Bool
 is_put devices d = nat_lt d (length devices) && (level devices d == 0)

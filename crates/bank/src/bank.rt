@@ -13,7 +13,7 @@ use crate::fault::BankFault;
 // are known.
 //
 // A call for a number that is not below the count is refused with `NoDevice`, before anything else is tested. A call that is
-// refused changes nothing.
+// refused changes nothing. After a put, a lowering with code 0 or a raising the hindrances of all devices may be others.
 pub trait Bank {
     // What the answers of the bank depend on, as a value of the kind's own choice.
     ghost Model: { Type 0 };

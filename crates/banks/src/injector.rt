@@ -1,7 +1,7 @@
 // Errnos that are injected over another bank.
-ghost use Rattle.std.specs.Prelude.{◌≡◌, ◌<◌, ◌≤◌, ◌+◌, ◌++◌, length, slice_index_or, List, ℕ, All};
+ghost use Rattle.std.specs.Prelude.{◌≡◌, ◌<◌, ◌+◌, slice_index_or, List, ℕ};
 ghost use Rattle.bank.specs.Laws.{SameKind};
-ghost use Rattle.bank.specs.Meaning.{greatest_errno, deepest};
+ghost use Rattle.bank.specs.Meaning.{greatest_errno};
 ghost use Rattle.bankrules.specs.Injections.{Over, cell_into_next, injector_kind, AreCells};
 ghost use Rattle.bankrules.proofs.Injecting.{injector_lawful};
 

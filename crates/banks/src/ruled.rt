@@ -1,6 +1,6 @@
 // A bank of devices that keep to a rule.
-ghost use Rattle.std.specs.Prelude.{◌≡◌, ◌≤◌, ◌<◌, ◌-◌, [], ◌∷◌, slice_index_or, length, map, MatchResult, List, ℕ, pos, neg_ℤ};
-ghost use Rattle.bank.specs.declared.fault.BankFault.TheVariants.{NoDevice, TooMany as Many};
+ghost use Rattle.std.specs.Prelude.{◌≡◌, ◌≤◌, ◌<◌, ◌-◌, [], slice_index_or, length, MatchResult, List, ℕ, pos, neg_ℤ};
+ghost use Rattle.bank.specs.declared.fault.BankFault.TheVariants.{NoDevice};
 ghost use Rattle.piles.specs.Words.{words_of};
 ghost use Rattle.piles.specs.Tables.{words_in};
 ghost use Rattle.bankrules.specs.Rules.{standing as standing_of, each_with_one, ruled_kind};

@@ -1,4 +1,4 @@
-// The worked calls of banks, made of running banks, and what their making hands back.
+// Calls like those of the worked cases, made of running banks, and what a refused making hands back.
 use crate::{board_answers, register_answers};
 use bank::bank::Bank;
 use bank::call::{Call, Reply};

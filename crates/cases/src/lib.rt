@@ -89,7 +89,8 @@ const BOARDS: [&[u8]; 9] = [
 ];
 
 // The board file of a worked case. That the cases hold is proved of every answer that the contract of the reader allows, of
-// every answer that the contract of the check without memory allows, and of every answer that the contract of `list` allows.
+// every answer that the contract of the check without memory allows, of every answer that the contract of `list` allows, and of
+// those with calls of banks of every answer that the contracts below allow.
 pub fn worked_board(case: usize) -> Option<&'static [u8]>
     ensures bytes { MatchOption result (length boards ≤ «case») (λ bytes. («case» < length boards) × (bytes.now ≡ slice_index_or boards «case» [])) }
     ensures hold { AllHold }

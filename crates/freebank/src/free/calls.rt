@@ -3,7 +3,7 @@ ghost use Rattle.std.specs.Prelude.{◌≡◌, drop, length, map, slice_index_or
 ghost use Rattle.bank.specs.Laws.{SameKind};
 ghost use Rattle.bank.specs.Makings.{Makes};
 ghost use Rattle.bank.specs.Meaning.{greatest_errno};
-ghost use Rattle.bankrules.specs.Free.{AreErrnos, Free, free_kind, next_choice};
+ghost use Rattle.bankrules.specs.Free.{Free, free_kind, next_choice};
 ghost use Rattle.bankrules.specs.Rules.{each_with_one};
 ghost use Rattle.bankrules.proofs.Freeing.{free_kept, free_lawful};
 ghost use Rattle.piles.proofs.Rows.{table_is};

@@ -20,7 +20,8 @@ impl Pile {
     pub fn level(self) -> u8
         ensures { result + 1 ≡ length (words_of self) }
     {
-        self.level
+        let Pile { level, .. } = self;
+        level
     }
 
     // The working word.

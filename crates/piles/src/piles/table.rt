@@ -1,5 +1,5 @@
 // The calls on a table of piles.
-ghost use Rattle.std.specs.Prelude.{◌≡◌, ◌<◌, ◌≤◌, [], ◌∷◌, length, map, set, slice_index_or, MatchResult};
+ghost use Rattle.std.specs.Prelude.{◌≡◌, ◌<◌, ◌≤◌, [], length, set, slice_index_or, MatchResult};
 ghost use Rattle.bank.specs.declared.fault.BankFault.TheVariants.{NoDevice};
 ghost use Rattle.piles.specs.Words.{words_of};
 ghost use Rattle.piles.specs.Tables.{words_in, TableMade};
