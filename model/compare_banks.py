@@ -2,7 +2,7 @@
 chance (2,000 if none is given), and holds what it prints to the model's answers and its status to 0. The program reads
 `calls.bin` in the folder that it is run in.
 
-Every run makes other cases. The seed that it prints makes them again."""
+Every run makes other cases, and prints a SEED that makes them again."""
 
 import os
 import subprocess
