@@ -1,0 +1,18 @@
+-- The law, for an engine's order.
+use Rattle.std.proofs.Common.{◌≡◌, ℕ}
+use Rattle.std.specs.Prelude.{Result}
+use Rattle.order.specs.declared.ordering.Order.{Order}
+use Rattle.order.specs.Answers.{Superior, devices}
+use Rattle.bank.specs.Laws.{Kind, Laws}
+use Rattle.history.specs.declared.call.Call.{Call}
+use Rattle.history.specs.declared.answer.Answer.{Answer}
+use Rattle.history.specs.declared.fault.EngineFault.{EngineFault}
+use Rattle.history.specs.Rules.{State, said, next}
+use Rattle.history.specs.Law.{FitsCall, Obeys}
+use Rattle.history.proofs.Lawfulness.{obeys}
+use Rattle.engine.proofs.Orders.{precedes, some_device}
+
+module _ {M : Type 0} {limit : ℕ} (kind : Kind M) (laws : Laws limit kind) (order : Order) where
+  pub keeps_law : (call : Call) (s later : State M) (answer : Result Answer EngineFault) → FitsCall call → answer ≡ said kind (devices order) s call → later ≡ next kind (devices order) s call
+      → Obeys kind (Superior order.superiors) (devices order) call s answer later
+  keeps_law call s later answer fits a t = rw (a, t) (obeys kind laws (Superior order.superiors) (devices order) (precedes order) (some_device order) call s fits)

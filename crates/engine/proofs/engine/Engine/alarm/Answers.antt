@@ -1,0 +1,7 @@
+use Rattle.std.proofs.Common.{rules}
+use Rattle.history.specs.declared.call.Call.TheVariants.{Alarm}
+use Rattle.engine.proofs.Law.{keeps_law}
+use Rattle.engine.proofs.engine.Engine.alarm.Goals as goal
+
+pub returns-clause-law : goal.returns-clause-law
+returns-clause-law g c = keeps_law g.B.Bank.kind g.met.B.Bank.lawful c.args.self.now.order (Alarm c.args.device) _ _ _ tt (search rules) (search rules)

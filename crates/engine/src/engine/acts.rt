@@ -1,0 +1,105 @@
+// The calls of an engine without their tickets.
+ghost use Rattle.std.specs.Prelude.{◌≡◌};
+ghost use Rattle.history.specs.declared.answer.Answer.TheVariants.{Opened, Stepped, Heard, Closed, Written, Seen};
+ghost use Rattle.history.specs.declared.call.Call.TheVariants.{Open, Step, Alarm, Close, Put, Look};
+ghost use Rattle.engine.specs.States.{Says, Becomes, answered};
+
+use crate::banks::write;
+use crate::engine::Engine;
+use crate::engine::moves::{met, rising};
+use bank::bank::Bank;
+use history::answer::{AlarmAnswer, StepAnswer};
+use history::fault::EngineFault;
+use history::outcome::Outcome;
+use history::standing::Standing;
+
+impl<B: Bank> Engine<B> {
+    // An opening.
+    pub(crate) fn begin(&mut self) -> Result<(), EngineFault>
+        ensures answer { Says ⟦<B as Bank>⟧ Open self.old (answered (λ _. Opened) result) }
+        ensures after { Becomes ⟦<B as Bank>⟧ Open self.old self.new }
+    {
+        let Standing::Awake = self.standing else {
+            return Err(EngineFault::InAttempt);
+        };
+        self.journal.clear();
+        self.standing = Standing::GoingDown { alarm: None };
+        Ok(())
+    }
+
+    // A step.
+    pub(crate) fn go(&mut self) -> Result<StepAnswer, EngineFault>
+        ensures answer { Says ⟦<B as Bank>⟧ Step self.old (answered Stepped result) }
+        ensures after { Becomes ⟦<B as Bank>⟧ Step self.old self.new }
+    {
+        match self.standing {
+            Standing::Awake => Err(EngineFault::NothingOpen),
+            Standing::Asleep | Standing::Landed { outcome: _ } => Err(EngineFault::AtRest),
+            Standing::ComingUp { outcome } => {
+                self.raise_last(outcome)?;
+                Ok(StepAnswer::Raised)
+            }
+            Standing::GoingDown { alarm: None } => self.lower_next(),
+            Standing::GoingDown { alarm } => {
+                self.standing = rising(self.cut_short(alarm), self.lowered);
+                Ok(StepAnswer::Alarmed)
+            }
+        }
+    }
+
+    // An alarm.
+    pub(crate) fn hear(&mut self, device: u8) -> Result<AlarmAnswer, EngineFault>
+        ensures answer { Says ⟦<B as Bank>⟧ (Alarm device) self.old (answered Heard result) }
+        ensures after { Becomes ⟦<B as Bank>⟧ (Alarm device) self.old self.new }
+    {
+        self.seen(device)?;
+        let alarm = Some(device);
+        match self.standing {
+            Standing::Awake => return Err(EngineFault::NothingOpen),
+            Standing::GoingDown { alarm: None } => {
+                self.standing = Standing::GoingDown { alarm };
+            }
+            Standing::Asleep => {
+                let taken = self.lowered;
+                self.standing = rising(Outcome::Slept { alarm, taken }, taken);
+            }
+            _ => return Ok(AlarmAnswer::Ignored),
+        }
+        Ok(AlarmAnswer::Kept)
+    }
+
+    // A close.
+    #[tactic(auto, using(crate::proofs::Raisings::left_raised, crate::proofs::Raisings::left_recorded))]
+    pub(crate) fn finish(&mut self) -> Result<Outcome, EngineFault>
+        ensures answer { Says ⟦<B as Bank>⟧ Close self.old (answered Closed result) }
+        ensures after { Becomes ⟦<B as Bank>⟧ Close self.old self.new }
+    {
+        let outcome = self.outcome().ok_or(EngineFault::NothingOpen)?;
+        self.standing = rising(outcome, self.lowered);
+        while self.lowered > 0 {
+            self.raise_last(outcome)?;
+        }
+        self.standing = Standing::Awake;
+        Ok(outcome)
+    }
+
+    // A put.
+    pub(crate) fn set(&mut self, device: u8, word: u32) -> Result<(), EngineFault>
+        ensures answer { Says ⟦<B as Bank>⟧ (Put device word) self.old (answered (λ _. Written) result) }
+        ensures after { Becomes ⟦<B as Bank>⟧ (Put device word) self.old self.new }
+    {
+        self.seen(device)?;
+        let Standing::Awake = self.standing else {
+            return Err(EngineFault::InAttempt);
+        };
+        let written = write(&mut self.bank, &self.order, device, word);
+        met(written, self.lowered)
+    }
+
+    // A look.
+    pub(crate) fn seen(&self, device: u8) -> Result<(u8, u32, u8), EngineFault>
+        ensures answer { Says ⟦<B as Bank>⟧ (Look device) self.now (answered (λ seen. Seen seen.0 seen.1 seen.2) result) }
+    {
+        met(self.bank.look(device), self.lowered)
+    }
+}

@@ -1,0 +1,9 @@
+pub mod Turns
+pub mod Schedules
+pub mod Unwinding
+pub mod Moves
+pub mod Descents
+pub mod Facts
+pub mod Standings
+pub mod Answering
+pub mod Lawfulness

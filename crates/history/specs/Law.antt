@@ -1,0 +1,187 @@
+-- The law over histories of calls, over any kind of bank. `superior s d` says that s is a superior of d.
+use Rattle.std.specs.Prelude.{◌≡◌, ℕ, ◌+◌, ◌^◌, ◌<◌, ◌≤◌, ◌≢◌, ◌⊎◌, ◌↔◌, true, false, if◌then◌else◌, ◌==◌, List, [], ◌∷◌, length, Some, None, Option, Ok, Err, Result, IsSome}
+use Rattle.bank.specs.Meaning.{Device, level, piles, hindrance, deepest}
+use Rattle.bank.specs.Laws.{Kind, GainsWord, LosesWord, HoldsWord}
+use Rattle.bank.specs.declared.fault.BankFault.TheVariants.{NoDevice}
+use Rattle.history.specs.declared.call.Call.{Call}
+use Rattle.history.specs.declared.call.Call.TheVariants.{Open, Step, Alarm, Close, Put, Look}
+use Rattle.history.specs.declared.answer.Answer.{Answer}
+use Rattle.history.specs.declared.answer.Answer.TheVariants.{Stepped, Heard, Closed, Written}
+use Rattle.history.specs.declared.answer.StepAnswer.TheVariants.{Lowered, Raised}
+use Rattle.history.specs.declared.answer.AlarmAnswer.TheVariants.{Kept}
+use Rattle.history.specs.declared.entry.Entry.{Entry}
+use Rattle.history.specs.declared.fault.EngineFault.{EngineFault}
+use Rattle.history.specs.declared.fault.EngineFault.TheVariants.{Bank, InAttempt, NothingOpen, AtRest}
+use Rattle.history.specs.declared.standing.Standing.TheVariants.{Awake}
+use Rattle.history.specs.declared.standing.Stage.{Stage}
+use Rattle.history.specs.declared.standing.Stage.TheVariants as stage
+use Rattle.history.specs.Schedule.{full, level_sum}
+use Rattle.history.specs.Attempts.{History, at, under_way, opening, descent, has_ended, next_device, outcome, or_else, standing, stage_of}
+use Rattle.history.specs.Rules.{State, shown, next, answer_to, recorded}
+
+-- ---- the words
+
+-- these devices, if their levels add up to k
+abbrev pub if_deep : ℕ → List Device → Option (List Device)
+if_deep k devices = if level_sum devices == k then Some devices else None
+
+module _ (order : List ℕ) where
+  -- the devices of the attempt under way as they stood when its levels, going down, first added up to k: as its opening found
+  -- them, or after the first call of its descent that left them so
+  abbrev pub first_with : ℕ → History → List Device → Option (List Device)
+  first_with k [] now = None
+  first_with k (m ∷ h) now =
+      if under_way h
+      then or_else (first_with k h m.before) (if has_ended order (descent order h) m.before then None else if_deep k now)
+      else if_deep k m.before
+
+  -- every device holds exactly the words that it held then, with k what the levels add up to now
+  abbrev pub HoldsFirstWords : History → List Device → Type 0
+  HoldsFirstWords h now = (first : List Device) × (first_with (level_sum now) h now ≡ Some first) × (piles now ≡ piles first)
+
+-- ---- the depths
+
+pub record Depths (superior : ℕ → ℕ → Type 0) (n : ℕ) (now : List Device) : Type 0 where
+  -- no superior at level 2 or deeper is deeper than a dependent of it
+  pub not_deeper : (s d : ℕ) → superior s d → 2 ≤ level now s → level now s ≤ level now d
+  -- no device has left level 0 while a superior of it is there
+  pub superior_left : (s d : ℕ) → superior s d → level now s ≡ 0 → level now d ≡ 0
+  -- two levels differ by at most one
+  pub near : (d e : ℕ) → d < n → e < n → level now d ≤ level now e + 1
+
+-- ---- the steps
+
+-- device x goes one level deeper, and gains a word; every other device stays as it is
+pub record OneLower (x : ℕ) (before after : List Device) : Type 0 where
+  pub inside : x < length before
+  pub gains : GainsWord before x after
+  pub deeper : level after x ≡ level before x + 1
+  pub others : (d : ℕ) → d ≢ x → level after d ≡ level before d
+
+-- device x comes one level up, and loses its top word; every other device stays as it is
+pub record OneHigher (x : ℕ) (before after : List Device) : Type 0 where
+  pub inside : x < length before
+  pub loses : LosesWord before x after
+  pub higher : level before x ≡ level after x + 1
+  pub others : (d : ℕ) → d ≢ x → level after d ≡ level before d
+
+-- ---- what the calls of a history tell
+
+abbrev pub is_lowering : Result Answer EngineFault → ℕ
+is_lowering (Ok (Stepped Lowered)) = 1
+is_lowering answer = 0
+
+module _ (order : List ℕ) where
+  -- what a call answers after this history
+  abbrev pub told : History → Call → List Device → Result Answer EngineFault
+  told h call now = answer_to order (standing order h now) call now
+
+  -- the journal
+  abbrev pub journal : History → List Entry
+  journal [] = []
+  journal (m ∷ h) = recorded order (told h m.call m.before) m.before (journal h)
+
+  -- how many calls of the attempt under way lowered a device
+  abbrev pub lowerings : History → ℕ
+  lowerings [] = 0
+  lowerings (m ∷ h) = if under_way h then is_lowering (told h m.call m.before) + lowerings h else 0
+
+  abbrev pub IsAt : Stage → History → List Device → Type 0
+  IsAt s h now = stage_of (standing order h now) ≡ s
+
+  -- an alarm is kept, or the next device has a hindrance
+  abbrev pub Stopped : History → List Device → Type 0
+  Stopped h now = IsSome (descent order h).kept ⊎ (0 < hindrance now (next_device order now))
+
+  -- the rules of refusal: the number of a device first, then what is open
+  abbrev pub NoSuch : List Device → ℕ → EngineFault → Type 0
+  NoSuch now d fault = (length order ≤ d) × (fault ≡ Bank (NoDevice d) (level_sum now))
+
+  abbrev pub Refuses : History → List Device → Call → EngineFault → Type 0
+  Refuses h now Open fault = (under_way h ≡ true) × (fault ≡ InAttempt)
+  Refuses h now Step fault = ((under_way h ≡ false) × (fault ≡ NothingOpen)) ⊎ ((IsAt stage.Asleep h now ⊎ IsAt stage.Landed h now) × (fault ≡ AtRest))
+  Refuses h now (Alarm d) fault = NoSuch now d fault ⊎ ((d < length order) × (under_way h ≡ false) × (fault ≡ NothingOpen))
+  Refuses h now Close fault = (under_way h ≡ false) × (fault ≡ NothingOpen)
+  Refuses h now (Put d w) fault = NoSuch now d fault ⊎ ((d < length order) × (under_way h ≡ true) × (fault ≡ InAttempt))
+  Refuses h now (Look d) fault = NoSuch now d fault
+
+-- ---- the law
+
+-- a word that is put has 32 bits
+abbrev pub FitsCall : Call → Type 0
+FitsCall Open = Unit {0}
+FitsCall Step = Unit {0}
+FitsCall (Alarm d) = Unit {0}
+FitsCall Close = Unit {0}
+FitsCall (Put d w) = w < 2 ^ 32
+FitsCall (Look d) = Unit {0}
+
+module _ {M : Type 0} (kind : Kind M) (order : List ℕ) where
+  -- an engine that is just made: of this order, with every device at level 0, nothing open, and nothing in the journal
+  pub record Made (s : State M) : Type 0 where
+    pub count : length (shown kind order s) ≡ length order
+    pub running : (d : ℕ) → level (shown kind order s) d ≡ 0
+    pub awake : s.standing ≡ Awake
+    pub blank : s.journal ≡ []
+
+  -- the history h led to this engine: it was just made, and was given the calls of h, the last one first in the list
+  abbrev pub LedTo : History → State M → Type 0
+  LedTo [] s = kind.sound s.model × Made s
+  LedTo (m ∷ h) s =
+      kind.sound s.model
+      × FitsCall m.call
+      × ((before : State M) × LedTo h before × (m.before ≡ shown kind order before) × (s ≡ next kind order before m.call))
+
+module _ {M : Type 0} (kind : Kind M) (superior : ℕ → ℕ → Type 0) (order : List ℕ) where
+  -- After the history h, the call is answered so and takes the engine from `s` to `later`.
+  pub record Lawful (h : History) (call : Call) (s : State M) (answer : Result Answer EngineFault) (later : State M) : Type 0 where
+    -- it answers what the history tells, and is refused exactly where the rules refuse it; a refusal alters nothing
+    pub answers : answer ≡ told order h call (shown kind order s)
+    pub refuses : (fault : EngineFault) → (answer ≡ Err fault) ↔ Refuses order h (shown kind order s) call fault
+    pub unaltered : (fault : EngineFault) → answer ≡ Err fault → later ≡ s
+    -- a step going down lowers exactly one device, by one level, unless an alarm is kept or the next device has a hindrance
+    pub lowers : call ≡ Step → IsAt order stage.GoingDown h (shown kind order s) → (Stopped order h (shown kind order s) → ⊥)
+        → (answer ≡ Ok (Stepped Lowered)) × OneLower (next_device order (shown kind order s)) (shown kind order s) (shown kind order later)
+    -- then it lowers none
+    pub stops : call ≡ Step → IsAt order stage.GoingDown h (shown kind order s) → Stopped order h (shown kind order s) → later.model ≡ s.model
+    -- exactly then, or at a close, the descent ends early
+    pub ends_early : under_way h ≡ true → (descent order h).turned ≡ None
+        → IsSome (descent order (at call (shown kind order s) ∷ h)).turned ↔ ((call ≡ Step) × IsAt order stage.GoingDown h (shown kind order s) × Stopped order h (shown kind order s))
+    -- an alarm is kept exactly where it is the attempt's first that names a device, and no step had ended the descent early
+    pub keeps : (d : ℕ) → call ≡ Alarm d
+        → (answer ≡ Ok (Heard Kept)) ↔ ((d < length order) × (under_way h ≡ true) × ((descent order h).kept ≡ None) × ((descent order h).turned ≡ None))
+    -- the levels add up to the lowerings of the attempt, and once they are four for each device, all are at level 4
+    pub adds_up : answer ≡ Ok (Stepped Lowered) → level_sum (shown kind order later) ≡ lowerings order (at call (shown kind order s) ∷ h)
+    pub all_deepest : level_sum (shown kind order later) ≡ full order → (d : ℕ) → d < length order → level (shown kind order later) d ≡ deepest
+    -- a step coming up raises exactly one device, by one level
+    pub raises : call ≡ Step → IsAt order stage.ComingUp h (shown kind order s)
+        → (answer ≡ Ok (Stepped Raised)) × ((x : ℕ) × OneHigher x (shown kind order s) (shown kind order later))
+    -- a close obeyed answers the outcome of its attempt, and leaves each device the words that its opening found
+    pub closes : call ≡ Close → under_way h ≡ true
+        → (answer ≡ Ok (Closed (outcome order (descent order h) (shown kind order s)))) × (piles (shown kind order later) ≡ piles (opening h))
+    -- a put obeyed gives its device that word alone; an opening, an alarm and a look leave the bank as it is
+    pub puts : (d w : ℕ) → call ≡ Put d w → answer ≡ Ok Written → HoldsWord (shown kind order s) d w (shown kind order later)
+    pub rests : call ≢ Step → call ≢ Close → answer ≢ Ok Written → later.model ≡ s.model
+    -- when the levels of an attempt add up to k, every device holds exactly the words that it held when they first did, going down
+    pub words : under_way (at call (shown kind order s) ∷ h) ≡ true → HoldsFirstWords order (at call (shown kind order s) ∷ h) (shown kind order later)
+    pub depths : Depths superior (length order) (shown kind order later)
+    -- the engine stands where the history tells, and its journal is exactly the entries that the calls tell
+    pub stands : later.standing ≡ standing order (at call (shown kind order s) ∷ h) (shown kind order later)
+    pub records : later.journal ≡ journal order (at call (shown kind order s) ∷ h)
+
+  -- whatever history led to the engine s, the call is lawful after it, and the history with the call leads to the engine `later`
+  pub record Obeys (call : Call) (s : State M) (answer : Result Answer EngineFault) (later : State M) : Type 0 where
+    pub lawful : (h : History) → LedTo kind order h s → Lawful h call s answer later
+    pub leads : (h : History) → LedTo kind order h s → LedTo kind order (at call (shown kind order s) ∷ h) later
+
+  -- calls one after another, each of them lawful after those before it
+  abbrev pub AreLawful : History → State M → List Call → List (Result Answer EngineFault) → State M → Type 0
+  AreLawful h s [] [] later = (later ≡ s) × LedTo kind order h later
+  AreLawful h s [] (answer ∷ answers) later = ⊥
+  AreLawful h s (call ∷ calls) [] later = ⊥
+  AreLawful h s (call ∷ calls) (answer ∷ answers) later =
+      (after : State M) × Lawful h call s answer after × AreLawful (at call (shown kind order s) ∷ h) after calls answers later
+
+  -- whatever history led to the engine s
+  pub record ObeyAll (calls : List Call) (s : State M) (answers : List (Result Answer EngineFault)) (later : State M) : Type 0 where
+    pub lawful : (h : History) → LedTo kind order h s → AreLawful h s calls answers later
