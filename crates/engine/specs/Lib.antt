@@ -1,5 +1,5 @@
 pub mod States
 pub mod Moving
-pub mod Closing
+pub mod Answers
 pub mod Making
 pub mod Tickets

@@ -1,11 +1,14 @@
 -- An engine as the rules and the law see it.
-use Rattle.std.specs.Prelude.{◌≡◌, ℕ, Ok, Err, Result, vec_items}
+use Rattle.std.specs.Prelude.{◌≡◌, ℕ, if◌then◌else◌, nat_lt, List, length, Ok, Err, Result, vec_items}
 use Rattle.bank.specs.declared.bank.Bank.{Ghosts}
 use Rattle.bank.specs.declared.fault.BankFault.{BankFault}
 use Rattle.history.specs.declared.answer.Answer.{Answer}
 use Rattle.history.specs.declared.call.Call.{Call}
 use Rattle.history.specs.declared.fault.EngineFault.{EngineFault}
-use Rattle.history.specs.declared.fault.EngineFault.TheVariants.{Bank}
+use Rattle.history.specs.declared.fault.EngineFault.TheVariants.{Bank, InAttempt}
+use Rattle.history.specs.declared.standing.Standing.{Standing}
+use Rattle.history.specs.declared.standing.Standing.TheVariants.{Awake}
+use Rattle.bank.specs.declared.fault.BankFault.TheVariants.{NoDevice}
 use Rattle.history.specs.Rules.{State, said, next}
 use Rattle.engine.specs.declared.engine.Engine.{Engine}
 use Rattle.order.specs.Answers.{Superior, devices}
@@ -20,6 +23,13 @@ answered says (Err fault) = Err fault
 abbrev pub travelled : {A : Type 0} → ℕ → Result A BankFault → Result A EngineFault
 travelled lowered (Ok x) = Ok x
 travelled lowered (Err fault) = Err (Bank fault lowered)
+
+abbrev pub if_awake : Standing → Result (Unit {0}) EngineFault
+if_awake Awake = Ok tt
+if_awake standing = Err InAttempt
+
+abbrev pub if_known : List ℕ → ℕ → ℕ → Result ℕ EngineFault
+if_known order lowered d = if nat_lt d (length order) then Ok d else Err (Bank (NoDevice d) lowered)
 
 -- `members` says what the bank does
 module _ {B : Type 0} (members : Ghosts B) where

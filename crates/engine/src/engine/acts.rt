@@ -2,7 +2,8 @@
 ghost use Rattle.std.specs.Prelude.{◌≡◌};
 ghost use Rattle.history.specs.declared.answer.Answer.TheVariants.{Opened, Stepped, Heard, Closed, Written, Seen};
 ghost use Rattle.history.specs.declared.call.Call.TheVariants.{Open, Step, Alarm, Close, Put, Look};
-ghost use Rattle.engine.specs.States.{Says, Becomes, answered};
+ghost use Rattle.order.specs.Answers.{devices};
+ghost use Rattle.engine.specs.States.{Says, Becomes, answered, if_awake, if_known};
 
 use crate::banks::write;
 use crate::engine::Engine;
@@ -14,14 +15,30 @@ use history::outcome::Outcome;
 use history::standing::Standing;
 
 impl<B: Bank> Engine<B> {
+    // An opening and a put are for an engine that is awake.
+    fn awake(&self) -> Result<(), EngineFault>
+        ensures { result ≡ if_awake self.now.standing }
+    {
+        match self.standing {
+            Standing::Awake => Ok(()),
+            _ => Err(EngineFault::InAttempt),
+        }
+    }
+
+    // A number, if it is a device's.
+    fn known(&self, device: u8) -> Result<u8, EngineFault>
+        ensures { result ≡ if_known (devices self.now.order) self.now.lowered device }
+    {
+        let _seen = self.seen(device)?;
+        Ok(device)
+    }
+
     // An opening.
     pub(crate) fn begin(&mut self) -> Result<(), EngineFault>
         ensures answer { Says ⟦<B as Bank>⟧ Open self.old (answered (λ _. Opened) result) }
         ensures after { Becomes ⟦<B as Bank>⟧ Open self.old self.new }
     {
-        let Standing::Awake = self.standing else {
-            return Err(EngineFault::InAttempt);
-        };
+        self.awake()?;
         self.journal.clear();
         self.standing = Standing::GoingDown { alarm: None };
         Ok(())
@@ -52,8 +69,7 @@ impl<B: Bank> Engine<B> {
         ensures answer { Says ⟦<B as Bank>⟧ (Alarm device) self.old (answered Heard result) }
         ensures after { Becomes ⟦<B as Bank>⟧ (Alarm device) self.old self.new }
     {
-        self.seen(device)?;
-        let alarm = Some(device);
+        let alarm = Some(self.known(device)?);
         match self.standing {
             Standing::Awake => return Err(EngineFault::NothingOpen),
             Standing::GoingDown { alarm: None } => {
@@ -88,10 +104,8 @@ impl<B: Bank> Engine<B> {
         ensures answer { Says ⟦<B as Bank>⟧ (Put device word) self.old (answered (λ _. Written) result) }
         ensures after { Becomes ⟦<B as Bank>⟧ (Put device word) self.old self.new }
     {
-        self.seen(device)?;
-        let Standing::Awake = self.standing else {
-            return Err(EngineFault::InAttempt);
-        };
+        let device = self.known(device)?;
+        self.awake()?;
         let written = write(&mut self.bank, &self.order, device, word);
         met(written, self.lowered)
     }

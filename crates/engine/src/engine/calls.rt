@@ -4,7 +4,7 @@ ghost use Rattle.history.specs.declared.answer.Answer.TheVariants.{Opened, Stepp
 ghost use Rattle.history.specs.declared.call.Call.TheVariants.{Open, Step, Alarm, Close, Put, Look};
 ghost use Rattle.history.specs.Attempts.{stage_of};
 ghost use Rattle.engine.specs.States.{Says, Becomes, KeepsLaw, answered};
-ghost use Rattle.engine.specs.Closing.{closing, EntryAt};
+ghost use Rattle.engine.specs.Answers.{closing, EntryAt, TellsStage, TellsCount, TellsEntry};
 
 use crate::engine::Engine;
 use crate::ticket::Ticket;
@@ -14,7 +14,6 @@ use history::entry::Entry;
 use history::fault::EngineFault;
 use history::outcome::Outcome;
 use history::standing::Stage;
-use order::ordering::Order;
 
 // A close that is refused, with the ticket that it was given.
 pub struct Unclosed {
@@ -88,29 +87,25 @@ impl<B: Bank> Engine<B> {
 
     // Where the engine stands.
     pub fn stage(&self) -> Stage
-        ensures { result ≡ stage_of self.now.standing }
+        ensures stage { result ≡ stage_of self.now.standing }
+        ensures told { TellsStage ⟦<B as Bank>⟧ self.now result }
     {
         self.standing.stage()
     }
 
     // The number of the journal's entries.
     pub fn entry_count(&self) -> usize
-        ensures { result ≡ length self.now.journal.items }
+        ensures count { result ≡ length self.now.journal.items }
+        ensures told { TellsCount ⟦<B as Bank>⟧ self.now result }
     {
         self.journal.len()
     }
 
     // An entry of the journal, the oldest first. Refused where the index is not below their number.
     pub fn entry(&self, index: usize) -> Result<Entry, EngineFault>
-        ensures { EntryAt self.now.journal.items index result }
+        ensures entry { EntryAt self.now.journal.items index result }
+        ensures told { TellsEntry ⟦<B as Bank>⟧ self.now index result }
     {
         self.journal.get(index).copied().ok_or(EngineFault::NoEntry)
-    }
-
-    // The order that the engine was made of.
-    pub fn order(&self) -> &Order
-        ensures { result.now ≡ self.now.order }
-    {
-        &self.order
     }
 }
