@@ -33,6 +33,13 @@ def told(bank, call):
         return refusal.line()
 
 
+def after(bank, called):
+    """The bank after these calls."""
+    for call in called:
+        told(bank, call)
+    return bank
+
+
 def line(call, text):
     name = NAMES[call.letter] if call.letter == "c" else "%s %d" % (NAMES[call.letter], call.device)
     return " ".join([name, text]) if text else name
@@ -60,44 +67,53 @@ def check_intent(case):
         assert call.intent in (None, text), (case.note, place, call, text)
 
 
+def list_bytes(called):
+    """The number of calls, and the calls."""
+    return len(called).to_bytes(2, "little") + b"".join(call.data() for call in called)
+
+
 def case_bytes(case):
-    return (bytes([case.shape]) + case.part.data() + len(case.calls).to_bytes(2, "little")
-            + b"".join(call.data() for call in case.calls))
+    return bytes([case.shape]) + case.part.data() + list_bytes(case.calls)
 
 
 def calls_bytes(cases):
     return b"".join(case_bytes(case) for case in cases)
 
 
+def numbered(lines_of_cases):
+    """The lines of each case behind its number."""
+    return "".join("# %d\n" % number + "".join(text + "\n" for text in lines)
+                   for number, lines in enumerate(lines_of_cases))
+
+
 def answers_text(cases):
-    return "".join("# %d\n" % number + "".join(text + "\n" for text in answers(case))
-                   for number, case in enumerate(cases))
+    return numbered(answers(case) for case in cases)
 
 
-def write(folder):
-    os.makedirs(folder, exist_ok=True)
-    with open(os.path.join(folder, "calls.bin"), "wb") as file:
-        file.write(calls_bytes(CASES))
-    with open(os.path.join(folder, "calls.txt"), "wb") as file:
-        file.write(answers_text(CASES).encode("ascii"))
-
-
-def print_list():
-    for number, case in enumerate(CASES):
+def print_list(cases):
+    for number, case in enumerate(cases):
         print("%3d  %2d  %s" % (number, case.shape, case.note))
 
 
-def main(arguments):
+def write_or_list(arguments, name, cases, data, text):
+    """What a program does that writes cases and answers, NAME.bin and NAME.txt, or lists the cases."""
     if len(arguments) != 1:
-        sys.stderr.write("usage: python3 calls.py OUTDIR | --list\n")
+        sys.stderr.write("usage: python3 %s.py OUTDIR | --list\n" % name)
         return 2
+    if arguments[0] == "--list":
+        print_list(cases)
+        return 0
+    os.makedirs(arguments[0], exist_ok=True)
+    for ending, content in (("bin", data(cases)), ("txt", text(cases).encode("ascii"))):
+        with open(os.path.join(arguments[0], "%s.%s" % (name, ending)), "wb") as file:
+            file.write(content)
+    return 0
+
+
+def main(arguments):
     for case in CASES:
         check_intent(case)
-    if arguments[0] == "--list":
-        print_list()
-    else:
-        write(arguments[0])
-    return 0
+    return write_or_list(arguments, "calls", CASES, calls_bytes, answers_text)
 
 
 if __name__ == "__main__":

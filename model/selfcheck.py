@@ -1,4 +1,5 @@
-"""Checks of the model: the documents' examples, all small graphs by brute force, and the banks (selfcheck_banks.py)."""
+"""Checks of the model: the documents' examples, all small graphs by brute force, the banks (selfcheck_banks.py), and the
+engine (selfcheck_engine.py)."""
 
 import itertools
 import os
@@ -7,6 +8,7 @@ import tempfile
 import boards
 import fuldrik
 import selfcheck_banks
+import selfcheck_engine
 import sleeporder
 from making import Draft, device, link, plain_devices, plain_links
 
@@ -135,6 +137,7 @@ def main():
     print("ok: %d boards, %d of them read, %d bytes"
           % (len(boards.CASES), read, len(boards.boards_bytes())))
     selfcheck_banks.main()
+    selfcheck_engine.main()
     print("ok")
 
 

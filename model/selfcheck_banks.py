@@ -299,7 +299,10 @@ class Reader:
 
     def case(self):
         part = built(SHAPES[self.number(1)], self.leaf, lambda _: self.bytes(self.number(2)))
-        return part, [(self.bytes(1).decode("ascii"), self.number(1), self.number(4)) for _ in range(self.number(2))]
+        return part, self.calls()
+
+    def calls(self):
+        return [(self.bytes(1).decode("ascii"), self.number(1), self.number(4)) for _ in range(self.number(2))]
 
 
 def check_reading():

@@ -4,4 +4,5 @@ pub mod Ranges
 pub mod Raisings
 pub mod Readiness
 pub mod Law
+pub mod Opening
 pub mod Playing

@@ -1,5 +1,5 @@
 -- Calls one after another, as a loop makes them.
-use Rattle.std.proofs.Common.{◌≡◌, ◌⊎◌, ℕ, Bool, suc, ◌+◌, ◌<◌, ◌≤◌, List, [], ◌∷◌, ◌++◌, length, get_or, drop, append_assoc, refl, ap, sym, subst, ◌∙◌, inl, inr, arith}
+use Rattle.std.proofs.Common.{◌≡◌, ◌⊎◌, ℕ, Bool, true, suc, ◌+◌, ◌<◌, ◌≤◌, List, [], ◌∷◌, ◌++◌, length, get_or, drop, append_assoc, refl, ap, sym, subst, ◌∙◌, inl, inr, arith}
 use Rattle.std.proofs.lemmas.Bool.{cases_lt}
 use Rattle.std.specs.Prelude.{Result}
 use Rattle.order.specs.declared.ordering.Order.{Order}
@@ -12,7 +12,8 @@ use Rattle.history.specs.declared.fault.EngineFault.{EngineFault}
 use Rattle.history.specs.Rules.{State, said, next, all_said, after_all}
 use Rattle.history.specs.Attempts.{History, at}
 use Rattle.history.specs.Law.{FitsCall, LedTo, AreLawful, ObeyAll}
-use Rattle.engine.specs.Tickets.{owes_after, owes}
+use Rattle.engine.specs.Tickets.{owes_after, owes, is_open}
+use Rattle.engine.proofs.Opening.{stays_open}
 use Rattle.engine.proofs.Law.{keeps_law}
 use Rattle.std.proofs.lemmas.List.{at_drop_more}
 
@@ -53,3 +54,9 @@ fits_more calls i before fits j h = go (cases_lt j i)
     go : (j < i) ⊎ (i ≤ j) → FitsCall (get_or calls j Open)
     go (inl l) = before j l
     go (inr l) = subst (λ k. FitsCall (get_or calls k Open)) (let e : i ≡ j = omega arith in e) fits
+
+-- a ticket that is owed after one call more
+pub opens_more : {M : Type 0} (kind : Kind M) (order : List ℕ) (s s' : State M) (call : Call) (answer : Result Answer EngineFault) (owed : Bool)
+    → answer ≡ said kind order s call → s' ≡ next kind order s call → (owed ≡ true → is_open s.standing ≡ true) → owes_after owed answer ≡ true → is_open s'.standing ≡ true
+opens_more kind order s s' call answer owed a t was o =
+    ap (λ (x : State _). is_open x.standing) t ∙ stays_open order (kind.devices s.model) owed s.standing call was (ap (owes_after owed) (sym a) ∙ o)

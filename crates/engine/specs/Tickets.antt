@@ -3,6 +3,8 @@ use Rattle.std.specs.Prelude.{◌≡◌, Bool, true, false, List, [], ◌∷◌,
 use Rattle.history.specs.declared.answer.Answer.{Answer}
 use Rattle.history.specs.declared.answer.Answer.TheVariants.{Opened, Closed}
 use Rattle.history.specs.declared.fault.EngineFault.{EngineFault}
+use Rattle.history.specs.declared.standing.Standing.{Standing}
+use Rattle.history.specs.declared.standing.Standing.TheVariants.{Awake}
 use Rattle.engine.specs.declared.ticket.Ticket.{Ticket}
 
 abbrev pub owes_after : Bool → Result Answer EngineFault → Bool
@@ -19,3 +21,8 @@ owes owed (answer ∷ answers) = owes (owes_after owed answer) answers
 abbrev pub Owes : List (Result Answer EngineFault) → Option Ticket → Type 0
 Owes answers None = owes false answers ≡ false
 Owes answers (Some ticket) = (owes false answers ≡ true) × (ticket.number ≡ 1)
+
+-- an attempt is open
+abbrev pub is_open : Standing → Bool
+is_open Awake = false
+is_open standing = true

@@ -1,11 +1,11 @@
 // Calls of an engine, made one after another.
-ghost use Rattle.std.specs.Prelude.{◌≡◌, IfOk, OnErr};
+ghost use Rattle.std.specs.Prelude.{◌≡◌, true, IfOk, OnErr, IsSome};
 ghost use Rattle.order.specs.Answers.{Superior, devices};
 ghost use Rattle.history.specs.declared.answer.Answer.TheVariants.{Opened, Closed};
 ghost use Rattle.history.specs.Rules.{all_said, after_all};
 ghost use Rattle.history.specs.Law.{FitsCall, ObeyAll};
 ghost use Rattle.engine.specs.States.{Says, Becomes, state};
-ghost use Rattle.engine.specs.Tickets.{owes_after, Owes};
+ghost use Rattle.engine.specs.Tickets.{owes_after, Owes, is_open};
 
 use crate::engine::Engine;
 use crate::ticket::Ticket;
@@ -73,6 +73,7 @@ impl<B: Bank> Engine<B> {
         ensures order { self.new.order ≡ self.old.order }
         ensures law { IfOk result (λ played. ObeyAll B.kind (Superior self.old.order.superiors) (devices self.old.order) calls.now (state ⟦<B as Bank>⟧ self.old) played.answers.items (state ⟦<B as Bank>⟧ self.new)) }
         ensures ticket { IfOk result (λ played. Owes played.answers.items played.ticket) }
+        ensures opened { IfOk result (λ played. IsSome played.ticket → is_open self.new.standing ≡ true) }
         ensures none { OnErr result (state ⟦<B as Bank>⟧ self.new ≡ state ⟦<B as Bank>⟧ self.old) }
     {
         let mut answers = Vec::with_capacity(heap, calls.len())?;

@@ -4,7 +4,7 @@ use Rattle.order.specs.Answers.{devices}
 use Rattle.history.specs.declared.call.Call.TheVariants.{Open}
 use Rattle.history.specs.Rules.{said, next}
 use Rattle.engine.specs.States.{state}
-use Rattle.engine.proofs.Playing.{owes_push, said_more, after_more, fits_more, all_keep}
+use Rattle.engine.proofs.Playing.{owes_push, said_more, after_more, fits_more, opens_more, all_keep}
 use Rattle.engine.proofs.engine.Engine.play.Goals as goal
 
 pub loop-call-preserved : goal.loop-call-preserved
@@ -23,6 +23,7 @@ loop-call-preserved g c =
       count = search rules;
       said = rw items (said_more kind order (state g.B.Bank c.loop-call.self) (state g.B.Bank c.reply-answer.new.self) c.args.calls.now c.loop-call.call-index Open c.reply-answer.result c.loop-call-test.true says becomes c.loop-call.answers.items _ so.said);
       after = after_more kind order (state g.B.Bank c.loop-call.self) (state g.B.Bank c.reply-answer.new.self) c.args.calls.now c.loop-call.call-index Open c.reply-answer.result c.loop-call-test.true says becomes _ so.after;
+      opened = λ e. opens_more kind order (state g.B.Bank c.loop-call.self) (state g.B.Bank c.reply-answer.new.self) (get_or c.args.calls.now c.loop-call.call-index Open) c.reply-answer.result c.loop-call.owed says becomes so.opened (sym c.is_owed-owed.ensures ∙ e);
       owed = rw items (owes_push _ c.loop-call.answers.items c.reply-answer.result ∙ rw so.owed (sym c.is_owed-owed.ensures));
       fits = fits_more c.args.calls.now c.loop-call.call-index so.fits c.reply-answer.ensures.fits;
     }
