@@ -23,7 +23,10 @@ fn print_call(rt: &HostRuntime, call: Call) -> anyhow::Result<()> {
 
 fn print_outcome(rt: &HostRuntime, outcome: Outcome) -> anyhow::Result<()> {
     let values = outcome.values();
-    println!(rt; " {} {} {} {} {}", values.kind, values.errno, values.device, values.phase, values.taken)?;
+    println!(rt;
+        " {} {} {} {} {}",
+        values.kind, values.errno, values.device, values.phase, values.taken
+    )?;
     Ok(())
 }
 

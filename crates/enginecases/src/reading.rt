@@ -9,7 +9,9 @@ use std::alloc::Global;
 // A count of devices, and pairs of a superior and a dependent.
 pub fn read_order(bytes: &mut Bytes) -> anyhow::Result<Order> {
     let count = bytes.byte()?;
-    let mut superiors = Superiors::new(count).ok_or_else(|| anyhow!("no board has so many devices"))?;
+    let mut superiors = Superiors::new(count).ok_or_else(|| anyhow!(
+        "no board has so many devices"
+    ))?;
     for _ in 0..bytes.number()? {
         let superior = bytes.byte()?;
         let dependent = bytes.byte()?;

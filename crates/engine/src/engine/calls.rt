@@ -16,6 +16,7 @@ use history::outcome::Outcome;
 use history::standing::Stage;
 
 // A close that is refused, with the ticket that it was given.
+#[derive(Drop)]
 pub struct Unclosed {
     pub fault: EngineFault,
     pub ticket: Ticket,

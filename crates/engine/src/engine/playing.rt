@@ -16,6 +16,7 @@ use history::fault::EngineFault;
 use std::alloc::{AllocError, Global};
 
 // What a list of calls was answered, and the ticket of the attempt that one of them opened and none after it closed.
+#[derive(Drop)]
 pub struct Played {
     pub answers: Vec<Result<Answer, EngineFault>>,
     pub ticket: Option<Ticket>,
