@@ -1,5 +1,5 @@
 -- A worked case holds where the tests, executed, come to what is expected, and the lines, computed, are the expected text.
-use Rattle.std.proofs.Common.{◌≡◌, ◌≤◌, ℕ, Bool, Vec, arith, length, List, [], ◌∷◌, ◌++◌, map, codes, filter, get_or, Ok, Err, Result, String, ◌∙◌, subst, ap}
+use Rattle.std.proofs.Common.{◌≡◌, ◌⊎◌, ◌<◌, ◌≤◌, ◌==◌, ℕ, zero, suc, Bool, true, Vec, arith, length, inl, inr, List, [], ◌∷◌, ◌++◌, map, codes, filter, get_or, Ok, Err, Result, String, ◌∙◌, subst, ap}
 use Rattle.std.specs.List.{AllByRecursion, flat_map, range_with_len}
 use Rattle.std.specs.declared.alloc.Global.{Global}
 use Rattle.std.proofs.lemmas.Bool.Decides.{Decides-like, same_from_decides}
@@ -24,13 +24,26 @@ use Rattle.listing.specs.declared.printing.ListFault.{ListFault}
 use Rattle.listing.specs.declared.printing.ListFault.TheVariants.{Refused as IsRefused, Memory as NoMemory}
 use Rattle.listing.specs.Lines.{lines}
 use Rattle.listing.specs.Printing.{Lists, printed as bytes_printed}
-use Rattle.cases.specs.Cases.{Case, Contents, reads, refuses, registers, whole, HasAnswered, HasRead, HasOrder, HasPrinted, Holds, IsChecked, IsPrinted}
+use Rattle.cases.specs.Cases.{Case, Contents, reads, refuses, registers, whole, plays, HasAnswered, HasPlayed, HasRead, HasOrder, HasPrinted, Holds, IsChecked, IsPrinted}
 use Rattle.bank.specs.declared.call.Call.{Call}
 use Rattle.bank.specs.declared.call.Reply.{Reply}
 use Rattle.bank.specs.declared.fault.BankFault.{BankFault}
 use Rattle.bank.specs.declared.fault.MakeFault.{MakeFault}
 use Rattle.bank.specs.declared.fault.MakeFault.TheVariants.{Bank as IsUnmade, Memory as NoRoom}
-use Rattle.bank.specs.Meaning.{most_devices}
+use Rattle.bank.specs.Meaning.{Device as BankDevice, level, most_devices}
+use Rattle.order.specs.Rule.{all_below}
+use Rattle.history.specs.declared.call.Call as engine_call
+use Rattle.history.specs.declared.answer.Answer.{Answer}
+use Rattle.history.specs.declared.entry.Entry.{Entry}
+use Rattle.history.specs.declared.fault.EngineFault.{EngineFault}
+use Rattle.history.specs.declared.standing.Stage.{Stage}
+use Rattle.history.specs.Attempts.{stage_of}
+use Rattle.history.specs.Rules.{all_said, after_all}
+use Rattle.engine.specs.Making.{Unready}
+use Rattle.cases.specs.declared.sessions.Session.{Session}
+use Rattle.cases.specs.declared.sessions.SessionFault.{SessionFault}
+use Rattle.cases.specs.declared.sessions.SessionFault.TheVariants.{Bank as BankRefuses, Engine as EngineRefuses, Memory as NoSpace}
+use Rattle.cases.specs.Sessions.{just_made, SessionAnswers}
 use Rattle.bank.specs.Runs.{answers_to}
 use Rattle.bankrules.specs.Rules.{each_with_one}
 use Rattle.bankrules.specs.Register.{register_kind}
@@ -113,6 +126,29 @@ Passes (reads bytes expected shown) = (outcome bytes ≡ Ok expected.order) × (
 Passes (refuses bytes fault shown) = (outcome bytes ≡ Err fault) × (bytes_printed (Err (IsRefused (told fault))) ≡ shown)
 Passes (registers words calls answers) = (length words ≤ most_devices) × (answers_to register_kind (each_with_one words) calls ≡ answers)
 Passes (whole parts calls answers) = (device_number parts ≤ most_devices) × (answers_to board_kind (board_model parts) calls ≡ answers)
+Passes (plays parts order calls answers journal stage) =
+    (device_number parts ≤ most_devices)
+    × (length (board_kind.devices (board_model parts)) ≡ length order)
+    × (all_below (length order) (λ d. level (board_kind.devices (board_model parts)) d == 0) ≡ true)
+    × (all_said board_kind order (just_made (board_model parts)) calls ≡ answers)
+    × ((after_all board_kind order (just_made (board_model parts)) calls).journal ≡ journal)
+    × (stage_of (after_all board_kind order (just_made (board_model parts)) calls).standing ≡ stage)
+
+-- devices that pass the test are no reason to refuse an engine
+below : (n : ℕ) (test : ℕ → Bool) → all_below n test ≡ true → (d : ℕ) → d < n → test d ≡ true
+below zero test t d h = absurd (omega arith)
+below (suc n) test t d h = grind (arith, below n test)
+
+not_unready : (order : List ℕ) (now : List BankDevice) (fault : EngineFault) → length now ≡ length order → all_below (length order) (λ d. level now d == 0) ≡ true → Unready order now fault → ⊥
+not_unready order now fault e t (inl (n, _)) = n e
+not_unready order now fault e t (inr (_, (d, h, deep), _)) = let none = below (length order) (λ x. level now x == 0) t d h in grind arith
+
+plays_hold : (parts : Parts) (order : List ℕ) (calls : List engine_call.Call) (answers : List (Result Answer EngineFault)) (journal : List Entry) (stage : Stage)
+    → Passes (plays parts order calls answers journal stage) → (r : Result Session SessionFault) → SessionAnswers parts order calls r → HasPlayed answers journal stage r
+plays_hold parts order calls answers journal stage (few, counts, running, a, j, s) (Ok session) (is_a, is_j, is_s, _) = (is_a ∙ a, is_j ∙ j, is_s ∙ s)
+plays_hold parts order calls answers journal stage (few, counts, running, a, j, s) (Err (BankRefuses f)) (many, is) = absurd (omega arith)
+plays_hold parts order calls answers journal stage (few, counts, running, a, j, s) (Err (EngineRefuses f)) why = not_unready order (board_kind.devices (board_model parts)) f counts running why
+plays_hold parts order calls answers journal stage (few, counts, running, a, j, s) (Err NoSpace) _ = tt
 
 -- the answers are those that are expected
 registers_hold : (words : List ℕ) (calls : List Call) (answers : List (Result Reply BankFault)) → length words ≤ most_devices → answers_to register_kind (each_with_one words) calls ≡ answers
@@ -132,18 +168,21 @@ holds (reads bytes expected shown) (e, same, _) = λ r answer. subst (λ c. HasR
 holds (refuses bytes fault shown) (e, _) = refuses_holds bytes fault e
 holds (registers words calls answers) (few, e) = registers_hold words calls answers few e
 holds (whole parts calls answers) (few, e) = whole_holds parts calls answers few e
+holds (plays parts order calls answers journal stage) passes = plays_hold parts order calls answers journal stage passes
 
 pub is_checked : (c : Case) → Passes c → IsChecked c
 is_checked (reads bytes expected shown) (e, _, _) = reads_checked bytes expected.order e
 is_checked (refuses bytes fault shown) (e, _) = refuses_checked bytes fault e
 is_checked (registers words calls answers) _ = tt
 is_checked (whole parts calls answers) _ = tt
+is_checked (plays parts order calls answers journal stage) _ = tt
 
 pub is_printed : (c : Case) → Passes c → IsPrinted c
 is_printed (reads bytes expected shown) (e, _, same) = λ r answer. subst (λ t. HasPrinted t r) same (reads_printed bytes expected.order e r answer)
 is_printed (refuses bytes fault shown) (e, same) = λ r answer. let is = refuses_printed bytes fault e r answer in (is, ap bytes_printed is ∙ same)
 is_printed (registers words calls answers) _ = tt
 is_printed (whole parts calls answers) _ = tt
+is_printed (plays parts order calls answers journal stage) _ = tt
 
 pub of_each : {P Q : Case → Type 0} → ((c : Case) → P c → Q c) → (cs : List Case) → AllByRecursion P cs → AllByRecursion Q cs
 of_each f [] all = tt

@@ -1,5 +1,5 @@
 -- The worked cases, as one list.
-use Rattle.std.specs.Prelude.{◌≡◌, ℕ, List, [], ◌∷◌, map, filter_map, Vec, Some, None, Ok, Err, vec_items, codes, Option, Result, String, string_bytes}
+use Rattle.std.specs.Prelude.{◌≡◌, ℕ, List, [], ◌∷◌, ◌++◌, map, filter_map, Vec, Some, None, Ok, Err, vec_items, codes, Option, Result, String, string_bytes}
 use Rattle.std.specs.List.{AllByRecursion}
 use Rattle.std.specs.declared.alloc.Global.{Global}
 use Rattle.order.specs.declared.ordering.Order.{Order}
@@ -25,6 +25,18 @@ use Rattle.bank.specs.declared.fault.BankFault.{BankFault}
 use Rattle.bank.specs.declared.fault.MakeFault.{MakeFault}
 use Rattle.bank.specs.declared.fault.MakeFault.TheVariants.{Bank as IsUnmade, Memory as NoRoom}
 use Rattle.cases.specs.Calls.{down_and_up, down_and_up_answers, too_busy, too_busy_answers, cell_hinders, cell_hinders_answers, controller_past, controller_past_answers}
+use Rattle.history.specs.declared.call.Call as engine_call
+use Rattle.history.specs.declared.call.Call.TheVariants.{Close}
+use Rattle.history.specs.declared.answer.Answer.{Answer}
+use Rattle.history.specs.declared.entry.Entry.{Entry}
+use Rattle.history.specs.declared.fault.EngineFault.{EngineFault}
+use Rattle.history.specs.declared.standing.Stage.{Stage}
+use Rattle.history.specs.declared.standing.Stage.TheVariants as stage
+use Rattle.cases.specs.declared.sessions.Session.{Session}
+use Rattle.cases.specs.declared.sessions.SessionFault.{SessionFault}
+use Rattle.cases.specs.declared.sessions.SessionFault.TheVariants.{Bank as BankRefuses, Engine as EngineRefuses, Memory as NoSpace}
+use Rattle.cases.specs.Engines.{three_parts, one_quiet, alarm_first, alarm_first_answers, by_lcd, one_sleeps, one_sleeps_answers, one_sleeps_journal, one_wakes_journal, slept_alone, busy, busy_answers, busy_journal, refusing, refusing_answers, refusing_journal, ends}
+use Rattle.cases.specs.Sessions.{SessionAnswers}
 use Rattle.cases.specs.Injected.{Parts, BoardAnswers}
 use Rattle.cases.specs.Registers.{RegistersAnswer}
 use Rattle.cases.specs.Boards.{three_devices, four_devices, short, later_edition, no_devices, near_table, same_names, self_link, circle}
@@ -61,6 +73,8 @@ pub data Case : Type 0 where
   registers : List ℕ → List Call → List (Result Reply BankFault) → Case
   -- the bank of a board that is made of these parts answers these calls so
   whole : Parts → List Call → List (Result Reply BankFault) → Case
+  -- an engine of this order over such a bank answers these calls so; then it has this journal, and stands in this stage
+  plays : Parts → List ℕ → List engine_call.Call → List (Result Answer EngineFault) → List Entry → Stage → Case
 
 -- a board with these contents, or want of memory
 abbrev pub HasRead : Contents → Result Board ReadFault → Type 0
@@ -74,12 +88,20 @@ HasAnswered expected (Ok answers) = vec_items answers ≡ expected
 HasAnswered expected (Err (IsUnmade fault)) = ⊥
 HasAnswered expected (Err NoRoom) = Unit {0}
 
--- whatever answer the reader's contract, or that of `register_answers` or `board_answers`, allows is the expected one
+-- these answers, this journal and this stage, or want of memory
+abbrev pub HasPlayed : List (Result Answer EngineFault) → List Entry → Stage → Result Session SessionFault → Type 0
+HasPlayed answers journal stage (Ok session) = (vec_items session.answers ≡ answers) × (vec_items session.journal ≡ journal) × (session.stage ≡ stage)
+HasPlayed answers journal stage (Err (BankRefuses fault)) = ⊥
+HasPlayed answers journal stage (Err (EngineRefuses fault)) = ⊥
+HasPlayed answers journal stage (Err NoSpace) = Unit {0}
+
+-- whatever answer the reader's contract, or that of `register_answers`, `board_answers` or `run_session`, allows is the expected one
 abbrev pub Holds : Case → Type 0
 Holds (reads bytes expected printed) = (r : Result Board ReadFault) → Reads bytes r → HasRead expected r
 Holds (refuses bytes fault printed) = (r : Result Board ReadFault) → Reads bytes r → r ≡ Err (BrokenBy fault)
 Holds (registers words calls answers) = (r : Result (Vec (Result Reply BankFault) Global) MakeFault) → RegistersAnswer words calls r → HasAnswered answers r
 Holds (whole parts calls answers) = (r : Result (Vec (Result Reply BankFault) Global) MakeFault) → BoardAnswers parts calls r → HasAnswered answers r
+Holds (plays parts order calls answers journal stage) = (r : Result Session SessionFault) → SessionAnswers parts order calls r → HasPlayed answers journal stage r
 
 -- this order, and no refusal
 abbrev pub HasOrder : List ℕ → Result Order BoardFault → Type 0
@@ -92,6 +114,7 @@ IsChecked (reads bytes expected printed) = (r : Result Order BoardFault) → Che
 IsChecked (refuses bytes fault printed) = (r : Result Order BoardFault) → Checks bytes r → r ≡ Err fault
 IsChecked (registers words calls answers) = Unit {0}
 IsChecked (whole parts calls answers) = Unit {0}
+IsChecked (plays parts order calls answers journal stage) = Unit {0}
 
 -- this text, or want of memory
 abbrev pub HasPrinted : List ℕ → Result (String Global) ListFault → Type 0
@@ -105,6 +128,7 @@ IsPrinted (reads bytes expected shown) = (r : Result (String Global) ListFault) 
 IsPrinted (refuses bytes fault shown) = (r : Result (String Global) ListFault) → Lists bytes r → (r ≡ Err (IsRefused (told fault))) × (printed r ≡ shown)
 IsPrinted (registers words calls answers) = Unit {0}
 IsPrinted (whole parts calls answers) = Unit {0}
+IsPrinted (plays parts order calls answers journal stage) = Unit {0}
 
 abbrev pub cases : List Case
 cases =
@@ -145,6 +169,12 @@ cases =
     (record { registers = 0x80000000 ∷ []; buses = 0 ∷ 0x501 ∷ []; quiets = []; cells = [] })
     controller_past
     controller_past_answers
+    ∷ plays (three_parts 0) (0 ∷ 1 ∷ 2 ∷ []) alarm_first alarm_first_answers [] stage.Landed
+    ∷ plays (three_parts 0) (0 ∷ 1 ∷ 2 ∷ []) (alarm_first ++ Close ∷ []) (alarm_first_answers ++ ends by_lcd ∷ []) [] stage.Awake
+    ∷ plays one_quiet (0 ∷ []) one_sleeps one_sleeps_answers one_sleeps_journal stage.Asleep
+    ∷ plays one_quiet (0 ∷ []) (one_sleeps ++ Close ∷ []) (one_sleeps_answers ++ ends slept_alone ∷ []) (one_sleeps_journal ++ one_wakes_journal) stage.Awake
+    ∷ plays (record { registers = 0x80000000 ∷ []; buses = []; quiets = []; cells = [] }) (0 ∷ []) busy busy_answers busy_journal stage.Awake
+    ∷ plays (three_parts 110) (0 ∷ 1 ∷ 2 ∷ []) refusing refusing_answers refusing_journal stage.Awake
     ∷ []
 
 -- the board file of a case, if it has one
@@ -153,6 +183,7 @@ board_of (reads bytes expected printed) = Some bytes
 board_of (refuses bytes fault printed) = Some bytes
 board_of (registers words calls answers) = None
 board_of (whole parts calls answers) = None
+board_of (plays parts order calls answers journal stage) = None
 
 abbrev pub boards : List (List ℕ)
 boards = filter_map board_of cases

@@ -38,3 +38,9 @@ abbrev pub BoardAnswers : Parts → List Call → Result (Vec (Result Reply Bank
 BoardAnswers parts calls (Ok answers) = vec_items answers ≡ answers_to board_kind (board_model parts) calls
 BoardAnswers parts calls (Err (Unmade fault)) = (most_devices < device_number parts) × (fault ≡ TooMany)
 BoardAnswers parts calls (Err Memory) = Unit {0}
+
+-- a bank that stands for these parts; or the fault that they are too many; or want of memory
+abbrev pub MakesBoard : {B : Type 0} → (B → (List (List ℕ) × (List (List ℕ) × List (List ℕ))) × List ℕ) → Parts → Result B MakeFault → Type 0
+MakesBoard model parts (Ok bank) = model bank ≡ board_model parts
+MakesBoard model parts (Err (Unmade fault)) = (most_devices < device_number parts) × (fault ≡ TooMany)
+MakesBoard model parts (Err Memory) = Unit {0}

@@ -3,3 +3,5 @@ pub mod Cases
 pub mod Registers
 pub mod Injected
 pub mod Calls
+pub mod Sessions
+pub mod Engines

@@ -1,18 +1,18 @@
 // The worked cases: board files and calls of banks, and what is to come of each.
 #![tactic(auto)]
 
+mod boardbank;
+pub mod sessions;
+
 ghost use Rattle.std.specs.Prelude.{◌≡◌, ◌<◌, ◌≤◌, [], length, MatchOption, slice_index_or};
 ghost use Rattle.cases.specs.Cases.{AllHold, AllChecked, AllPrinted, boards};
 ghost use Rattle.cases.specs.Injected.{BoardAnswers};
 ghost use Rattle.cases.specs.Registers.{RegistersAnswer};
 
+use crate::boardbank::board_bank;
 use bank::call::{Call, Reply};
 use bank::fault::{BankFault, MakeFault};
 use bank::playing::play;
-use banks::bus::bus_bank;
-use banks::injector::Injector;
-use banks::pair::Pair;
-use banks::quiet::quiet_bank;
 use banks::register::register_bank;
 use std::alloc::Global;
 
@@ -123,13 +123,13 @@ pub fn board_answers(
 ) -> Result<Vec<Result<Reply, BankFault>>, MakeFault>
     ensures { BoardAnswers (record { registers = registers.now; buses = buses.now; quiets = quiets.now; cells = cells.items }) calls.now result }
 {
-    let others = Pair::new(bus_bank(heap, buses)?, quiet_bank(heap, quiets)?)?;
-    let all = Pair::new(register_bank(heap, registers)?, others)?;
-    let mut bank = Injector::new(all, cells);
+    let mut bank = board_bank(heap, registers, buses, quiets, cells)?;
     Ok(play(heap, &mut bank, calls)?)
 }
 
 #[cfg(test)]
 mod bank_tests;
+#[cfg(test)]
+mod engine_tests;
 #[cfg(test)]
 mod tests;

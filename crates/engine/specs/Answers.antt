@@ -31,6 +31,9 @@ module _ {B : Type 0} (members : Ghosts B) where
   TellsStage engine answer = (h : History) → LedTo members.kind (devices engine.order) h (state members engine)
       → answer ≡ stage_of (standing (devices engine.order) h (members.kind.devices (members.model engine.bank)))
 
+  abbrev pub TellsJournal : Engine B members → List Entry → Type 0
+  TellsJournal engine entries = (h : History) → LedTo members.kind (devices engine.order) h (state members engine) → entries ≡ journal (devices engine.order) h
+
   abbrev pub TellsCount : Engine B members → ℕ → Type 0
   TellsCount engine answer = (h : History) → LedTo members.kind (devices engine.order) h (state members engine) → answer ≡ length (journal (devices engine.order) h)
 

@@ -1,9 +1,12 @@
 pub mod Turns
 pub mod Schedules
+pub mod Stacks
 pub mod Unwinding
 pub mod Moves
-pub mod Descents
-pub mod Facts
 pub mod Standings
-pub mod Answering
+pub mod Refusals
+pub mod Outcomes
+pub mod Transitions
+pub mod Effects
+pub mod Facts
 pub mod Lawfulness

@@ -1,5 +1,6 @@
 -- The levels that the schedule gives.
-use Rattle.std.proofs.Common.{◌≡◌, ◌≢◌, ◌⊎◌, ℕ, zero, suc, ◌+◌, ◌-◌, ◌<◌, ◌≤◌, List, [], ◌∷◌, length, get_or, set, drop, map, sum, length-set, length-drop, refl, sym, ap, subst, ◌∙◌, inl, inr, arith}
+use Rattle.std.proofs.Common.{◌≡◌, ◌≢◌, ◌⊎◌, ℕ, zero, suc, ◌+◌, ◌-◌, ◌<◌, ◌≤◌, List, [], ◌∷◌, length, get_or, set, drop, map, sum}
+use Rattle.std.proofs.Common.{length-set, length-drop, refl, sym, ap, subst, ◌∙◌, inl, inr, arith}
 use Rattle.std.specs.Prelude.{slice_index}
 use Rattle.std.specs.List.{sum_by}
 use Rattle.std.proofs.lemmas.List.{length-map, get_or-set_same, get_or-set_other}
@@ -25,7 +26,7 @@ pile_at [] d = refl
 pile_at (x ∷ now) zero = refl
 pile_at (x ∷ now) (suc d) = pile_at now d
 
-pub level_from_piles : (now : List Device) (d : ℕ) → level now d ≡ height (get_or (piles now) d [])
+level_from_piles : (now : List Device) (d : ℕ) → level now d ≡ height (get_or (piles now) d [])
 level_from_piles now d = ap height (pile_at now d)
 
 pub count_from_piles : (now : List Device) → length (piles now) ≡ length now
@@ -35,7 +36,7 @@ heights : (now : List Device) → map (λ (x : Device). length x.words - 1) now 
 heights [] = refl
 heights (x ∷ now) = ap (λ (l : List ℕ). height x.words ∷ l) (heights now)
 
-pub sum_from_piles : (now : List Device) → level_sum now ≡ sum_by height (piles now)
+sum_from_piles : (now : List Device) → level_sum now ≡ sum_by height (piles now)
 sum_from_piles now = ap sum (heights now) ∙ sum-map height (piles now)
 
 none_high : (ps : List (List ℕ)) → sum_by height ps ≡ 0 → (d : ℕ) → height (get_or ps d []) ≡ 0
@@ -191,19 +192,6 @@ module _ (order : List ℕ) (permutes : Permutes (length order) order) (some : 1
       removed : (a b t u : ℕ) → a ≡ suc b → u + a ≡ t + b → suc u ≡ t
       removed a b t u e f = omega arith
 
-  -- where the piles are the same
-  pub scheduled_same : (now later : List Device) → Scheduled order now → piles later ≡ piles now → Scheduled order later × (level_sum later ≡ level_sum now)
-  scheduled_same now later s e =
-      let same : level_sum later ≡ level_sum now = sum_from_piles later ∙ ap (sum_by height) e ∙ sym (sum_from_piles now) in (
-        record {
-          count = sym (count_from_piles later) ∙ ap length e ∙ count_from_piles now ∙ s.count;
-          most = omega (arith, s.most);
-          levels = λ i l. level_from_piles later _ ∙ ap (λ (ps : List (List ℕ)). height (get_or ps (slice_index order i) [])) e ∙ sym (level_from_piles now _)
-              ∙ s.levels i l ∙ ap (level_at (length order) i) (sym same);
-        },
-        same,
-      )
-
   level_none : (i : ℕ) → i < length order → level_at (length order) i 0 ≡ 0
   level_none i h = let d : Depth (length order) i 0 (level_at (length order) i 0) = depth (length order) i 0 h in d.none (omega arith)
 
@@ -242,7 +230,8 @@ module _ (order : List ℕ) (permutes : Permutes (length order) order) (some : 1
       ap (level now) (sym e) ∙ s.levels j l ∙ ap (level_at (length order) j) h ∙ level_all j l
 
   -- superiors stand before their dependents in the order
-  pub scheduled_depths : (superior : ℕ → ℕ → Type 0) → Precedes (length order) superior order → (now : List Device) → Scheduled order now → Depths superior (length order) now
+  pub scheduled_depths : (superior : ℕ → ℕ → Type 0) → Precedes (length order) superior order → (now : List Device) → Scheduled order now
+      → Depths superior (length order) now
   scheduled_depths superior precedes now s =
       record {
         not_deeper = λ u d r two.

@@ -1,10 +1,12 @@
 // The calls of an engine.
-ghost use Rattle.std.specs.Prelude.{◌≡◌, IfOk, IfErr, length};
+ghost use Rattle.std.specs.Prelude.{◌≡◌, ◌*◌, ◌≤◌, IfOk, IfErr, length};
 ghost use Rattle.history.specs.declared.answer.Answer.TheVariants.{Opened, Stepped, Heard, Written, Seen};
 ghost use Rattle.history.specs.declared.call.Call.TheVariants.{Open, Step, Alarm, Close, Put, Look};
 ghost use Rattle.history.specs.Attempts.{stage_of};
 ghost use Rattle.engine.specs.States.{Says, Becomes, KeepsLaw, answered};
-ghost use Rattle.engine.specs.Answers.{closing, EntryAt, TellsStage, TellsCount, TellsEntry};
+ghost use Rattle.order.specs.Answers.{devices};
+ghost use Rattle.history.specs.Schedule.{full};
+ghost use Rattle.engine.specs.Answers.{closing, EntryAt, TellsStage, TellsJournal, TellsCount, TellsEntry};
 
 use crate::engine::Engine;
 use crate::ticket::Ticket;
@@ -92,6 +94,15 @@ impl<B: Bank> Engine<B> {
         ensures told { TellsStage ⟦<B as Bank>⟧ self.now result }
     {
         self.standing.stage()
+    }
+
+    // The journal, the oldest entry first. It never has more than two entries for each lowering of the schedule.
+    pub fn entries(&self) -> &[Entry]
+        ensures entries { result.now ≡ self.now.journal.items }
+        ensures most { length result.now ≤ 2 * full (devices self.now.order) }
+        ensures told { TellsJournal ⟦<B as Bank>⟧ self.now result.now }
+    {
+        &self.journal
     }
 
     // The number of the journal's entries.

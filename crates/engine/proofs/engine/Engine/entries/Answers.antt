@@ -1,0 +1,7 @@
+use Rattle.std.proofs.Common.{◌∙◌, rules}
+use Rattle.engine.specs.States.{state}
+use Rattle.engine.proofs.Law.{tells_journal}
+use Rattle.engine.proofs.engine.Engine.entries.Goals as goal
+
+pub returns-clause-told : goal.returns-clause-told
+returns-clause-told g c = λ h led. (search rules) ∙ tells_journal g.B.Bank.kind g.met.B.Bank.lawful c.args.self.now.order h (state g.B.Bank c.args.self.now) led
