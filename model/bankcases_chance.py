@@ -5,8 +5,8 @@ and then, so that most lowerings and raisings are taken, and all levels are met.
 
 from bankmaking import (LEAVES, SHAPES, Case, Free, Injector, Pair, any_way, built, count, device_count, look, looks,
                         lower, put, raise_)
+from chances import of_each_shape, others
 from fuldrik import Refused
-from making import Chance
 
 CALLS = 72                # about how many calls a case has
 
@@ -222,15 +222,9 @@ def some_case(chance, form, length=CALLS):
 
 
 def cases():
-    chance = Chance(401)
-    for _ in range(5):
-        for form in SHAPES:
-            yield some_case(chance, form)
+    return of_each_shape(401, 5, some_case)
 
 
 def more_cases(seed, total):
     """So many others, for a comparison."""
-    chance = Chance(seed)
-    for _ in range(total):
-        form = SHAPES[chance.below(len(SHAPES))]
-        yield some_case(chance, form, 4 + chance.below(120))
+    return others(seed, total, some_case)

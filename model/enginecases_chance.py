@@ -7,8 +7,8 @@ from bankmaking import LEAVES, SHAPES, Call, Free, any_way, built, count, leaves
 from calls import after
 from engine import ASLEEP, AWAKE, COMING_UP, GOING_DOWN, LANDED, Engine
 from enginemaking import Board, Case, any_alarm, any_close, any_open, any_step, told
+from chances import of_each_shape, others
 from fuldrik import Refused
-from making import Chance
 
 CALLS = 60                # about how many calls a case has
 
@@ -145,15 +145,9 @@ def some_case(chance, form, length=CALLS):
 
 
 def cases():
-    chance = Chance(601)
-    for _ in range(6):
-        for form in SHAPES:
-            yield some_case(chance, form)
+    return of_each_shape(601, 6, some_case)
 
 
 def more_cases(seed, total):
     """So many others, for a comparison."""
-    chance = Chance(seed)
-    for _ in range(total):
-        form = SHAPES[chance.below(len(SHAPES))]
-        yield some_case(chance, form, 4 + chance.below(120))
+    return others(seed, total, some_case)

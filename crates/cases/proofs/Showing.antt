@@ -1,5 +1,5 @@
 -- A worked case holds where the tests, executed, come to what is expected, and the lines, computed, are the expected text.
-use Rattle.std.proofs.Common.{◌≡◌, ◌⊎◌, ◌<◌, ◌≤◌, ◌==◌, ℕ, zero, suc, Bool, true, Vec, arith, length, inl, inr, List, [], ◌∷◌, ◌++◌, map, codes, filter, get_or, Ok, Err, Result, String, ◌∙◌, subst, ap}
+use Rattle.std.proofs.Common.{◌≡◌, ◌<◌, ◌≤◌, ◌==◌, ℕ, zero, suc, Bool, true, Vec, arith, length, inl, inr, List, [], ◌∷◌, ◌++◌, map, codes, filter, get_or, Ok, Err, Result, String, ◌∙◌, subst, ap}
 use Rattle.std.specs.List.{AllByRecursion, flat_map, range_with_len}
 use Rattle.std.specs.declared.alloc.Global.{Global}
 use Rattle.std.proofs.lemmas.Bool.Decides.{Decides-like, same_from_decides}

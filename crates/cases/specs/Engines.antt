@@ -1,5 +1,5 @@
 -- The calls of the worked cases of the engine, what they are answered, and the journal after them.
-use Rattle.std.specs.Prelude.{ℕ, List, [], ◌∷◌, ◌++◌, ℤ, pos, neg_ℤ, None, Ok, Result}
+use Rattle.std.specs.Prelude.{ℕ, List, [], ◌∷◌, ℤ, pos, neg_ℤ, None, Ok, Result}
 use Rattle.history.specs.declared.call.Call.{Call}
 use Rattle.history.specs.declared.call.Call.TheVariants.{Open, Step, Alarm, Close}
 use Rattle.history.specs.declared.answer.Answer.{Answer}

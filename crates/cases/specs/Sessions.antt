@@ -1,5 +1,5 @@
 -- What an engine over the bank of a board answers that is just made, and where it stands afterwards.
-use Rattle.std.specs.Prelude.{◌≡◌, ◌≢◌, ℕ, ◌<◌, ◌≤◌, List, [], length, Ok, Err, Result, vec_items}
+use Rattle.std.specs.Prelude.{◌≡◌, ℕ, ◌<◌, List, [], Ok, Err, Result, vec_items}
 use Rattle.bank.specs.declared.fault.BankFault.TheVariants.{TooMany}
 use Rattle.bank.specs.declared.fault.MakeFault.{MakeFault as BankMakeFault}
 use Rattle.bank.specs.declared.fault.MakeFault.TheVariants.{Bank as Refused, Memory as NoRoom}
@@ -8,7 +8,6 @@ use Rattle.engine.specs.declared.engine.making.MakeFault.TheVariants.{Engine as 
 use Rattle.bank.specs.Laws.{Kind}
 use Rattle.bank.specs.Meaning.{most_devices}
 use Rattle.history.specs.declared.call.Call.{Call}
-use Rattle.history.specs.declared.fault.EngineFault.{EngineFault}
 use Rattle.history.specs.declared.standing.Standing.TheVariants.{Awake}
 use Rattle.history.specs.Attempts.{stage_of}
 use Rattle.history.specs.Rules.{State, all_said, after_all}

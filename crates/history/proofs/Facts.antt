@@ -64,13 +64,13 @@ module _ {M : Type 0} {limit : ℕ} (kind : Kind M) (laws : Laws limit kind) (or
     pub range_at : (st : Standing) → s.standing ≡ st → InRange (full order) st (level_sum now)
     range_at st e = subst (λ (x : Standing). InRange (full order) x (level_sum now)) e f.in_range
 
-    tells_at : (st : Standing) → s.standing ≡ st → TellsOf order h now st
+    pub tells_at : (st : Standing) → s.standing ≡ st → TellsOf order h now st
     tells_at st e = subst (λ (x : Standing). TellsOf order h now x) e here
 
-    is_awake : under_way h ≡ false → s.standing ≡ Awake
+    pub is_awake : under_way h ≡ false → s.standing ≡ Awake
     is_awake u = f.stands ∙ cond-false (under_way h) _ _ u
 
-    none_lowered : s.standing ≡ Awake → level_sum now ≡ 0
+    pub none_lowered : s.standing ≡ Awake → level_sum now ≡ 0
     none_lowered e = let r : InRange (full order) Awake (level_sum now) = range_at Awake e in omega (arith, r.limit)
 
     -- ---- one call more
@@ -159,11 +159,15 @@ module _ {M : Type 0} {limit : ℕ} (kind : Kind M) (laws : Laws limit kind) (or
       moves : Moved (next kind order s call).model (sum_after answer (level_sum now))
       moves = moved (effect order now call s.standing)
 
+      -- what the levels add up to after the call
+      pub sum_later : level_sum later ≡ sum_after answer (level_sum now)
+      sum_later = moves.sum
+
       follow : ((next kind order s call).standing ≡ standing order longer later) × InRange (full order) (next kind order s call).standing (level_sum later)
       follow = follows order now f.scheduled.most (omega (arith, some)) h s.standing f.stands f.in_range call later moves.sum
 
       -- the count of lowerings
-      count_more : under_way h ≡ true → lowerings order longer ≡ is_lowering answer + lowerings order h
+      pub count_more : under_way h ≡ true → lowerings order longer ≡ is_lowering answer + lowerings order h
       count_more w = cond-true (under_way h) _ _ w ∙ ap (λ (x : Result Answer EngineFault). is_lowering x + lowerings order h) (sym told_so)
 
       -- going down, the levels add up to the lowerings, before the call and after it

@@ -27,6 +27,10 @@ use Rattle.history.proofs.Standings.{goes_down, comes_up}
 use Rattle.history.proofs.Refusals.{refuses}
 use Rattle.history.proofs.Outcomes.{goes_free, is_stopped, keeps, ends_early, closes_with}
 use Rattle.history.proofs.Effects.{Effect, lowers, raises, closes, puts, rests, effect, alters, model_told, stays_still, unaltered}
+use Rattle.history.specs.Journals.{Notes}
+use Rattle.history.specs.Endings.{Endings}
+use Rattle.history.proofs.Noting.{notes}
+use Rattle.history.proofs.Ending.{endings}
 use Rattle.history.proofs.Facts.{Facts, facts, facts_next, here, range_at, told_so, counts_on}
 
 module _ {M : Type 0} {limit : ℕ} (kind : Kind M) (laws : Laws limit kind) (superior : ℕ → ℕ → Type 0) (order : List ℕ)
@@ -131,8 +135,8 @@ module _ {M : Type 0} {limit : ℕ} (kind : Kind M) (laws : Laws limit kind) (su
         go (closes end c n q) = absurd (cc)
         go (rests q) = absurd (cc (q, ap alters e))
 
-    lawful_from : Known (at call now ∷ h) later → Lawful kind superior order h call s answer later
-    lawful_from after =
+    lawful_from : Known (at call now ∷ h) later → Notes kind order call s answer later → Endings kind order h call s answer → Lawful kind superior order h call s answer later
+    lawful_from after noted ended =
         record {
           answers = told_so kind laws order precedes.permutes some h s f call fits;
           refuses = refuses order now h call s.standing f.stands;
@@ -153,13 +157,16 @@ module _ {M : Type 0} {limit : ℕ} (kind : Kind M) (laws : Laws limit kind) (su
           depths = scheduled_depths order precedes.permutes some superior precedes (shown kind order later) after.scheduled;
           stands = after.stands;
           records = after.records;
+          notes = noted;
+          endings = ended;
         }
 
   -- each call is lawful after every history, and leads on
   pub obeys : (call : Call) (s : State M) → FitsCall call → Obeys kind superior order call s (said kind order s call) (next kind order s call)
   obeys call s fits =
       record {
-        lawful = λ h led. lawful_from h s (known h led) call fits (after h led);
+        lawful = λ h led. lawful_from h s (known h led) call fits (after h led)
+            (notes kind laws order precedes.permutes some h s call fits led) (endings kind laws order precedes.permutes some h s call fits led);
         leads = λ h led. ((after h led).sound, fits, (s, led, refl, refl));
       }
     where

@@ -9,4 +9,9 @@ pub mod Outcomes
 pub mod Transitions
 pub mod Effects
 pub mod Facts
+pub mod Phases
+pub mod Ways
+pub mod Noting
+pub mod Counts
+pub mod Ending
 pub mod Lawfulness

@@ -125,7 +125,7 @@ module _ (order : List ℕ) (permutes : Permutes (length order) order) (some : 1
       subst (λ (v : ℕ). v < deepest) (sym (s.levels p l)) (subst (λ (v : ℕ). v ≤ deepest) (turn_level k h) d.most)
 
   -- the level of the last device lowered
-  last_level : (now : List Device) (j : ℕ) → Scheduled order now → level_sum now ≡ suc j
+  pub last_level : (now : List Device) (j : ℕ) → Scheduled order now → level_sum now ≡ suc j
       → level now (device_of order j) ≡ suc (level_at (length order) (place (length order) j) j)
   last_level now j s e =
       let h : j < full order = omega (arith, s.most) in

@@ -1,109 +1,23 @@
 -- The law over histories of calls, over any kind of bank. `superior s d` says that s is a superior of d.
-use Rattle.std.specs.Prelude.{◌≡◌, ℕ, ◌+◌, ◌^◌, ◌<◌, ◌≤◌, ◌≢◌, ◌⊎◌, ◌↔◌, true, false, if◌then◌else◌, ◌==◌, List, [], ◌∷◌, length, Some, None, Option, Ok, Err, Result, IsSome}
-use Rattle.bank.specs.Meaning.{Device, level, piles, hindrance, deepest}
-use Rattle.bank.specs.Laws.{Kind, GainsWord, LosesWord, HoldsWord}
-use Rattle.bank.specs.declared.fault.BankFault.TheVariants.{NoDevice}
+use Rattle.std.specs.Prelude.{◌≡◌, ℕ, ◌^◌, ◌<◌, ◌≢◌, ◌↔◌, true, List, [], ◌∷◌, length, None, Ok, Err, Result, IsSome}
+use Rattle.bank.specs.Meaning.{level, piles, deepest}
+use Rattle.bank.specs.Laws.{Kind, HoldsWord}
 use Rattle.history.specs.declared.call.Call.{Call}
 use Rattle.history.specs.declared.call.Call.TheVariants.{Open, Step, Alarm, Close, Put, Look}
 use Rattle.history.specs.declared.answer.Answer.{Answer}
 use Rattle.history.specs.declared.answer.Answer.TheVariants.{Stepped, Heard, Closed, Written}
 use Rattle.history.specs.declared.answer.StepAnswer.TheVariants.{Lowered, Raised}
 use Rattle.history.specs.declared.answer.AlarmAnswer.TheVariants.{Kept}
-use Rattle.history.specs.declared.entry.Entry.{Entry}
 use Rattle.history.specs.declared.fault.EngineFault.{EngineFault}
-use Rattle.history.specs.declared.fault.EngineFault.TheVariants.{Bank, InAttempt, NothingOpen, AtRest}
 use Rattle.history.specs.declared.standing.Standing.TheVariants.{Awake}
-use Rattle.history.specs.declared.standing.Stage.{Stage}
 use Rattle.history.specs.declared.standing.Stage.TheVariants as stage
 use Rattle.history.specs.Schedule.{full, level_sum}
-use Rattle.history.specs.Attempts.{History, at, under_way, opening, descent, has_ended, next_device, outcome, or_else, standing, stage_of}
-use Rattle.history.specs.Rules.{State, shown, next, answer_to, recorded}
-
--- ---- the words
-
--- these devices, if their levels add up to k
-abbrev pub if_deep : ℕ → List Device → Option (List Device)
-if_deep k devices = if level_sum devices == k then Some devices else None
-
-module _ (order : List ℕ) where
-  -- the devices of the attempt under way as they stood when its levels, going down, first added up to k: as its opening found
-  -- them, or after the first call of its descent that left them so
-  abbrev pub first_with : ℕ → History → List Device → Option (List Device)
-  first_with k [] now = None
-  first_with k (m ∷ h) now =
-      if under_way h
-      then or_else (first_with k h m.before) (if has_ended order (descent order h) m.before then None else if_deep k now)
-      else if_deep k m.before
-
-  -- every device holds exactly the words that it held then, with k what the levels add up to now
-  abbrev pub HoldsFirstWords : History → List Device → Type 0
-  HoldsFirstWords h now = (first : List Device) × (first_with (level_sum now) h now ≡ Some first) × (piles now ≡ piles first)
-
--- ---- the depths
-
-pub record Depths (superior : ℕ → ℕ → Type 0) (n : ℕ) (now : List Device) : Type 0 where
-  -- no superior at level 2 or deeper is deeper than a dependent of it
-  pub not_deeper : (s d : ℕ) → superior s d → 2 ≤ level now s → level now s ≤ level now d
-  -- no device has left level 0 while a superior of it is there
-  pub superior_left : (s d : ℕ) → superior s d → level now s ≡ 0 → level now d ≡ 0
-  -- two levels differ by at most one
-  pub near : (d e : ℕ) → d < n → e < n → level now d ≤ level now e + 1
-
--- ---- the steps
-
--- device x goes one level deeper, and gains a word; every other device stays as it is
-pub record OneLower (x : ℕ) (before after : List Device) : Type 0 where
-  pub inside : x < length before
-  pub gains : GainsWord before x after
-  pub deeper : level after x ≡ level before x + 1
-  pub others : (d : ℕ) → d ≢ x → level after d ≡ level before d
-
--- device x comes one level up, and loses its top word; every other device stays as it is
-pub record OneHigher (x : ℕ) (before after : List Device) : Type 0 where
-  pub inside : x < length before
-  pub loses : LosesWord before x after
-  pub higher : level before x ≡ level after x + 1
-  pub others : (d : ℕ) → d ≢ x → level after d ≡ level before d
-
--- ---- what the calls of a history tell
-
-abbrev pub is_lowering : Result Answer EngineFault → ℕ
-is_lowering (Ok (Stepped Lowered)) = 1
-is_lowering answer = 0
-
-module _ (order : List ℕ) where
-  -- what a call answers after this history
-  abbrev pub told : History → Call → List Device → Result Answer EngineFault
-  told h call now = answer_to order (standing order h now) call now
-
-  -- the journal
-  abbrev pub journal : History → List Entry
-  journal [] = []
-  journal (m ∷ h) = recorded order (told h m.call m.before) m.before (journal h)
-
-  -- how many calls of the attempt under way lowered a device
-  abbrev pub lowerings : History → ℕ
-  lowerings [] = 0
-  lowerings (m ∷ h) = if under_way h then is_lowering (told h m.call m.before) + lowerings h else 0
-
-  abbrev pub IsAt : Stage → History → List Device → Type 0
-  IsAt s h now = stage_of (standing order h now) ≡ s
-
-  -- an alarm is kept, or the next device has a hindrance
-  abbrev pub Stopped : History → List Device → Type 0
-  Stopped h now = IsSome (descent order h).kept ⊎ (0 < hindrance now (next_device order now))
-
-  -- the rules of refusal: the number of a device first, then what is open
-  abbrev pub NoSuch : List Device → ℕ → EngineFault → Type 0
-  NoSuch now d fault = (length order ≤ d) × (fault ≡ Bank (NoDevice d) (level_sum now))
-
-  abbrev pub Refuses : History → List Device → Call → EngineFault → Type 0
-  Refuses h now Open fault = (under_way h ≡ true) × (fault ≡ InAttempt)
-  Refuses h now Step fault = ((under_way h ≡ false) × (fault ≡ NothingOpen)) ⊎ ((IsAt stage.Asleep h now ⊎ IsAt stage.Landed h now) × (fault ≡ AtRest))
-  Refuses h now (Alarm d) fault = NoSuch now d fault ⊎ ((d < length order) × (under_way h ≡ false) × (fault ≡ NothingOpen))
-  Refuses h now Close fault = (under_way h ≡ false) × (fault ≡ NothingOpen)
-  Refuses h now (Put d w) fault = NoSuch now d fault ⊎ ((d < length order) × (under_way h ≡ true) × (fault ≡ InAttempt))
-  Refuses h now (Look d) fault = NoSuch now d fault
+use Rattle.history.specs.Attempts.{History, at, under_way, opening, descent, next_device, outcome, standing}
+use Rattle.history.specs.Rules.{State, shown, next}
+pub use Rattle.history.specs.Sentences.{if_deep, first_with, HoldsFirstWords, Depths, OneLower, OneHigher}
+pub use Rattle.history.specs.Telling.{is_lowering, told, journal, lowerings, IsAt, Stopped, NoSuch, Refuses}
+use Rattle.history.specs.Journals.{Notes}
+use Rattle.history.specs.Endings.{Endings}
 
 -- ---- the law
 
@@ -146,7 +60,8 @@ module _ {M : Type 0} (kind : Kind M) (superior : ℕ → ℕ → Type 0) (order
     pub stops : call ≡ Step → IsAt order stage.GoingDown h (shown kind order s) → Stopped order h (shown kind order s) → later.model ≡ s.model
     -- exactly then, or at a close, the descent ends early
     pub ends_early : under_way h ≡ true → (descent order h).turned ≡ None
-        → IsSome (descent order (at call (shown kind order s) ∷ h)).turned ↔ ((call ≡ Step) × IsAt order stage.GoingDown h (shown kind order s) × Stopped order h (shown kind order s))
+        → IsSome (descent order (at call (shown kind order s) ∷ h)).turned
+        ↔ ((call ≡ Step) × IsAt order stage.GoingDown h (shown kind order s) × Stopped order h (shown kind order s))
     -- an alarm is kept exactly where it is the attempt's first that names a device, and no step had ended the descent early
     pub keeps : (d : ℕ) → call ≡ Alarm d
         → (answer ≡ Ok (Heard Kept)) ↔ ((d < length order) × (under_way h ≡ true) × ((descent order h).kept ≡ None) × ((descent order h).turned ≡ None))
@@ -168,6 +83,9 @@ module _ {M : Type 0} (kind : Kind M) (superior : ℕ → ℕ → Type 0) (order
     -- the engine stands where the history tells, and its journal is exactly the entries that the calls tell
     pub stands : later.standing ≡ standing order (at call (shown kind order s) ∷ h) (shown kind order later)
     pub records : later.journal ≡ journal order (at call (shown kind order s) ∷ h)
+    -- what each call notes, and how attempts end, told once more in the words of levels
+    pub notes : Notes kind order call s answer later
+    pub endings : Endings kind order h call s answer
 
   -- whatever history led to the engine s, the call is lawful after it, and the history with the call leads to the engine `later`
   pub record Obeys (call : Call) (s : State M) (answer : Result Answer EngineFault) (later : State M) : Type 0 where

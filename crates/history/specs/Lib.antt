@@ -3,5 +3,9 @@ pub mod Faults
 pub mod Schedule
 pub mod Attempts
 pub mod Rules
+pub mod Sentences
+pub mod Telling
+pub mod Journals
+pub mod Endings
 pub mod Law
 pub mod Keeping

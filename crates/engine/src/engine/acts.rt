@@ -1,8 +1,9 @@
 // The calls of an engine without their tickets.
-ghost use Rattle.std.specs.Prelude.{◌≡◌};
+ghost use Rattle.std.specs.Prelude.{◌≡◌, length};
 ghost use Rattle.history.specs.declared.answer.Answer.TheVariants.{Opened, Stepped, Heard, Closed, Written, Seen};
 ghost use Rattle.history.specs.declared.call.Call.TheVariants.{Open, Step, Alarm, Close, Put, Look};
 ghost use Rattle.order.specs.Answers.{devices};
+ghost use Rattle.engine.specs.Answers.{EntryAt};
 ghost use Rattle.engine.specs.States.{Says, Becomes, answered, if_awake, if_known};
 
 use crate::banks::write;
@@ -10,6 +11,7 @@ use crate::engine::Engine;
 use crate::engine::moves::{met, rising};
 use bank::bank::Bank;
 use history::answer::{AlarmAnswer, StepAnswer};
+use history::entry::Entry;
 use history::fault::EngineFault;
 use history::outcome::Outcome;
 use history::standing::Standing;
@@ -115,5 +117,19 @@ impl<B: Bank> Engine<B> {
         ensures answer { Says ⟦<B as Bank>⟧ (Look device) self.now (answered (λ seen. Seen seen.0 seen.1 seen.2) result) }
     {
         met(self.bank.look(device), self.lowered)
+    }
+
+    // How many entries the journal has.
+    pub(crate) fn noted(&self) -> usize
+        ensures { result ≡ length self.now.journal.items }
+    {
+        self.journal.len()
+    }
+
+    // The entry of this index.
+    pub(crate) fn noted_at(&self, index: usize) -> Result<Entry, EngineFault>
+        ensures { EntryAt self.now.journal.items index result }
+    {
+        self.journal.get(index).copied().ok_or(EngineFault::NoEntry)
     }
 }

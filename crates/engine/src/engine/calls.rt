@@ -110,7 +110,7 @@ impl<B: Bank> Engine<B> {
         ensures count { result ≡ length self.now.journal.items }
         ensures told { TellsCount ⟦<B as Bank>⟧ self.now result }
     {
-        self.journal.len()
+        self.noted()
     }
 
     // An entry of the journal, the oldest first. Refused where the index is not below their number.
@@ -118,6 +118,6 @@ impl<B: Bank> Engine<B> {
         ensures entry { EntryAt self.now.journal.items index result }
         ensures told { TellsEntry ⟦<B as Bank>⟧ self.now index result }
     {
-        self.journal.get(index).copied().ok_or(EngineFault::NoEntry)
+        self.noted_at(index)
     }
 }

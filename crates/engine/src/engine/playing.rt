@@ -67,7 +67,8 @@ impl<B: Bank> Engine<B> {
         })
     }
 
-    // Makes calls in their order. A close takes whichever ticket is out. Where there is no memory for the answers, none is made.
+    // Makes calls in their order. A close among them closes whatever attempt is open; a ticket of it that the caller holds stays
+    // out. Where there is no memory for the answers, no call is made.
     pub fn play(&mut self, heap: Global, calls: &[Call]) -> Result<Played, AllocError>
         ensures answers { IfOk result (λ played. played.answers.items ≡ all_said B.kind (devices self.old.order) (state ⟦<B as Bank>⟧ self.old) calls.now) }
         ensures after { IfOk result (λ _. state ⟦<B as Bank>⟧ self.new ≡ after_all B.kind (devices self.old.order) (state ⟦<B as Bank>⟧ self.old) calls.now) }
