@@ -1,4 +1,4 @@
-// The lines that are printed.
+// One case: a bank and its calls, and the lines that are printed.
 use anyhow::anyhow;
 use bank::call::{Call, Reply};
 use bank::fault::{BankFault, MakeFault};

@@ -1,4 +1,4 @@
--- The calls of the worked cases, and what they are answered.
+-- The calls of banks in the worked cases, and what they are answered.
 use Rattle.std.specs.Prelude.{ℕ, List, [], ◌∷◌, pos, neg_ℤ, Ok, Err, Result}
 use Rattle.bank.specs.declared.call.Call.{Call}
 use Rattle.bank.specs.declared.call.Call.TheVariants.{Count, Look, Put, Lower, Raise}

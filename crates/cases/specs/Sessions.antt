@@ -22,7 +22,7 @@ use Rattle.cases.specs.declared.sessions.SessionFault.TheVariants.{Bank, Engine,
 abbrev pub just_made : {M : Type 0} → M → State M
 just_made m = record { model = m; standing = Awake; journal = [] }
 
--- the bank of a kind, the order and the calls; how the bank may be refused is not said here
+-- what calls of an engine of this order over a bank that stands for m answer; no refusal of a bank comes, since the bank is there
 abbrev pub RunAnswers : {M : Type 0} → Kind M → M → List ℕ → List Call → Result Session SessionFault → Type 0
 RunAnswers kind m order calls (Ok session) =
     (vec_items session.answers ≡ all_said kind order (just_made m) calls)

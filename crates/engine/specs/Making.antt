@@ -26,6 +26,7 @@ Unready order now fault =
     ((length now ≢ length order) × (fault ≡ CountsDiffer))
     ⊎ ((length now ≡ length order) × ((d : ℕ) × (d < length order) × (0 < level now d)) × (fault ≡ NotAwake))
 
+-- whether they are
 abbrev pub Readies : List ℕ → List Device → Result (Unit {0}) EngineFault → Type 0
 Readies order now (Ok done) = IsReady order now
 Readies order now (Err fault) = Unready order now fault

@@ -7,6 +7,7 @@ use Rattle.history.specs.declared.standing.Standing.{Standing}
 use Rattle.history.specs.declared.standing.Standing.TheVariants.{Awake}
 use Rattle.engine.specs.declared.ticket.Ticket.{Ticket}
 
+-- whether a ticket is owed after one answer more
 abbrev pub owes_after : Bool → Result Answer EngineFault → Bool
 owes_after owed (Ok Opened) = true
 owes_after owed (Ok (Closed outcome)) = false

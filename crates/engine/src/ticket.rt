@@ -1,5 +1,5 @@
 // The ticket of an attempt.
-ghost use Rattle.std.specs.Prelude.{◌≡◌, ℕ};
+ghost use Rattle.std.specs.Prelude.{◌≡◌};
 
 // What an opening hands out, and what only a close takes: a number, 1 for each ticket that is out. It may be let go only with 0,
 // which no ticket has outside this module.
@@ -14,7 +14,7 @@ impl Ticket {
         Ticket { number: 1 }
     }
 
-    // Takes the ticket out of the world.
+    // Sets the number to 0, so that the ticket can be let go.
     pub(crate) fn take(mut self) {
         self.number = 0;
     }

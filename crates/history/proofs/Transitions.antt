@@ -98,7 +98,7 @@ module _ (order : List ℕ) (now : List Device) where
         range : (alarm : Option ℕ) → InRange (full order) (GoingDown alarm) (level_sum now)
         range alarm = record { least = omega arith; limit = r.limit }
 
-        lowered_range : (k : ℕ) → k ≤ full order → InRange (full order) (lowered_to order None k) k
+        lowered_range : (k : ℕ) → k ≤ full order → InRange (full order) (lowered_to order k) k
         lowered_range k m =
             cond_both (k == full order) Asleep (GoingDown None) (λ (x : Standing). InRange (full order) x k)
             (λ q. let i : k ≡ full order = eqb-true k (full order) q in record { least = omega arith; limit = omega arith })

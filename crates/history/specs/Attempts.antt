@@ -1,4 +1,5 @@
--- What a history of calls tells: from the calls alone, and from the levels and hindrances that the bank has just before each.
+-- What a history of calls tells: from the calls alone, and from the devices as the bank shows them just before each, of which levels
+-- and hindrances are read; words are only handed on.
 use Rattle.std.specs.Prelude.{ℕ, zero, suc, Bool, true, false, if◌then◌else◌, not, ◌&&◌, ◌||◌, ◌==◌, nat_lt, List, [], ◌∷◌, length, Some, None, Option}
 use Rattle.bank.specs.Meaning.{Device, hindrance}
 use Rattle.history.specs.declared.call.Call.{Call}

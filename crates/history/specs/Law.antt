@@ -58,14 +58,15 @@ module _ {M : Type 0} (kind : Kind M) (superior : ℕ → ℕ → Type 0) (order
         → (answer ≡ Ok (Stepped Lowered)) × OneLower (next_device order (shown kind order s)) (shown kind order s) (shown kind order later)
     -- then it lowers none
     pub stops : call ≡ Step → IsAt order stage.GoingDown h (shown kind order s) → Stopped order h (shown kind order s) → later.model ≡ s.model
-    -- exactly then, or at a close, the descent ends early
+    -- exactly then a step ends the descent early; a close that comes going down does too, by `going_down` of `Endings`
     pub ends_early : under_way h ≡ true → (descent order h).turned ≡ None
         → IsSome (descent order (at call (shown kind order s) ∷ h)).turned
         ↔ ((call ≡ Step) × IsAt order stage.GoingDown h (shown kind order s) × Stopped order h (shown kind order s))
     -- an alarm is kept exactly where it is the attempt's first that names a device, and no step had ended the descent early
     pub keeps : (d : ℕ) → call ≡ Alarm d
         → (answer ≡ Ok (Heard Kept)) ↔ ((d < length order) × (under_way h ≡ true) × ((descent order h).kept ≡ None) × ((descent order h).turned ≡ None))
-    -- the levels add up to the lowerings of the attempt, and once they are four for each device, all are at level 4
+    -- after a step that lowers, the levels add up to the lowerings of the attempt; once they are four for each device, all are at
+    -- level 4
     pub adds_up : answer ≡ Ok (Stepped Lowered) → level_sum (shown kind order later) ≡ lowerings order (at call (shown kind order s) ∷ h)
     pub all_deepest : level_sum (shown kind order later) ≡ full order → (d : ℕ) → d < length order → level (shown kind order later) d ≡ deepest
     -- a step coming up raises exactly one device, by one level

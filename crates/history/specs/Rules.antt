@@ -103,16 +103,18 @@ module _ (order : List ℕ) where
 
   -- ---- where the engine stands afterwards
 
-  abbrev pub lowered_to : Option ℕ → ℕ → Standing
-  lowered_to alarm k = if k == full order then Asleep else GoingDown alarm
+  -- after a lowering, with levels that add up to k
+  abbrev pub lowered_to : ℕ → Standing
+  lowered_to k = if k == full order then Asleep else GoingDown None
 
+  -- once the descent has ended so, with levels that add up to k
   abbrev pub risen_to : Option Outcome → ℕ → Standing
   risen_to None k = Awake
   risen_to (Some outcome) k = rising outcome k
 
   abbrev pub stands_after : Standing → Call → Result Answer EngineFault → List Device → Standing
   stands_after standing call (Ok Opened) now = GoingDown None
-  stands_after standing call (Ok (Stepped Lowered)) now = lowered_to None (suc (level_sum now))
+  stands_after standing call (Ok (Stepped Lowered)) now = lowered_to (suc (level_sum now))
   stands_after standing call (Ok (Stepped Raised)) now = risen_to (outcome_from standing (level_sum now)) (level_sum now - 1)
   stands_after standing call (Ok (Stepped Hindered)) now = rising (by_fault order now) (level_sum now)
   stands_after standing call (Ok (Stepped Alarmed)) now = risen_to (outcome_from standing (level_sum now)) (level_sum now)

@@ -35,6 +35,7 @@ module _ (order : List ℕ) where
   lowerings [] = 0
   lowerings (m ∷ h) = if under_way h then is_lowering (told h m.call m.before) + lowerings h else 0
 
+  -- the engine is in this stage after this history
   abbrev pub IsAt : Stage → History → List Device → Type 0
   IsAt s h now = stage_of (standing order h now) ≡ s
 
@@ -42,10 +43,11 @@ module _ (order : List ℕ) where
   abbrev pub Stopped : History → List Device → Type 0
   Stopped h now = IsSome (descent order h).kept ⊎ (0 < hindrance now (next_device order now))
 
-  -- the rules of refusal: the number of a device first, then what is open
+  -- refused as the bank refuses a number that is no device's
   abbrev pub NoSuch : List Device → ℕ → EngineFault → Type 0
   NoSuch now d fault = (length order ≤ d) × (fault ≡ Bank (NoDevice d) (level_sum now))
 
+  -- the rules of refusal: the number of a device first, then what is open
   abbrev pub Refuses : History → List Device → Call → EngineFault → Type 0
   Refuses h now Open fault = (under_way h ≡ true) × (fault ≡ InAttempt)
   Refuses h now Step fault = ((under_way h ≡ false) × (fault ≡ NothingOpen)) ⊎ ((IsAt stage.Asleep h now ⊎ IsAt stage.Landed h now) × (fault ≡ AtRest))

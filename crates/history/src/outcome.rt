@@ -47,44 +47,27 @@ impl Outcome {
     pub fn values(self) -> Values
         ensures { result ≡ outcome_values self }
     {
-        match self {
-            Outcome::Slept { alarm, taken } => Values {
-                kind: 0,
-                errno: 0,
-                device: alarm.unwrap_or(255),
-                phase: 0,
-                taken,
-            },
+        let (kind, errno, device, phase, taken) = match self {
+            Outcome::Slept { alarm, taken } => (0, 0, alarm.unwrap_or(255), 0, taken),
             Outcome::Fault {
                 errno,
                 device,
                 phase,
                 taken,
-            } => Values {
-                kind: 1,
-                errno,
-                device,
-                phase: phase.number(),
-                taken,
-            },
+            } => (1, errno, device, phase.number(), taken),
             Outcome::Alarm {
                 device,
                 phase,
                 taken,
-            } => Values {
-                kind: 2,
-                errno: 16,
-                device,
-                phase: phase.number(),
-                taken,
-            },
-            Outcome::Cancelled { phase, taken } => Values {
-                kind: 3,
-                errno: 0,
-                device: 255,
-                phase: phase.number(),
-                taken,
-            },
+            } => (2, 16, device, phase.number(), taken),
+            Outcome::Cancelled { phase, taken } => (3, 0, 255, phase.number(), taken),
+        };
+        Values {
+            kind,
+            errno,
+            device,
+            phase,
+            taken,
         }
     }
 }

@@ -55,8 +55,8 @@ fn is_running<B: Bank>(bank: &B, device: u8) -> bool
     matches!(bank.look(device), Ok((0, _, _)))
 }
 
-#[tactic(auto, using(crate::proofs::Readiness::all_running))]
 // Whether an engine can be made of this order and this bank.
+#[tactic(auto, using(crate::proofs::Readiness::all_running))]
 fn readied<B: Bank>(order: &Order, bank: &B) -> Result<(), EngineFault>
     ensures { Readies (devices order.now) (B.kind.devices (B.model bank.now)) result }
 {
@@ -81,9 +81,9 @@ fn room<B: Bank>(heap: Global, order: &Order, bank: &B) -> Result<Vec<Entry>, Ma
 }
 
 impl<B: Bank> Engine<B> {
-    #[tactic(auto, using(crate::proofs::Readiness::ready_sum, crate::proofs::Readiness::ready_scheduled))]
     // An engine that is awake. Refused where the order and the bank differ in their number of devices, and where a device is not
     // at level 0; the bank is then handed back.
+    #[tactic(auto, using(crate::proofs::Readiness::ready_sum, crate::proofs::Readiness::ready_scheduled))]
     pub fn new(heap: Global, order: Order, bank: B) -> Result<Engine<B>, Unmade<B>>
         ensures makes { Makes ⟦<B as Bank>⟧ order bank result }
         ensures led { IfOk result (λ engine. LedTo B.kind (devices order) [] (state ⟦<B as Bank>⟧ engine)) }

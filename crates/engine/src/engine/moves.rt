@@ -90,8 +90,8 @@ impl<B: Bank> Engine<B> {
         Ok(())
     }
 
-    #[tactic(auto, using(crate::proofs::Ranges::turned_range, crate::proofs::Ranges::turned_entries))]
     // Lowers the next device, unless it is hindered; then the attempt turns round.
+    #[tactic(auto, using(crate::proofs::Ranges::turned_range, crate::proofs::Ranges::turned_entries))]
     pub(crate) fn lower_next(&mut self) -> Result<StepAnswer, EngineFault>
         requires { self.old.standing ≡ GoingDown None }
         ensures answer { Says ⟦<B as Bank>⟧ Step self.old (answered Stepped result) }
