@@ -39,5 +39,7 @@ module _ {M : Type 0} (kind : Kind M) (superior : ℕ → ℕ → Type 0) (order
   stepped start s later answer obeys (h, led, open_, found) =
       (at Step (shown kind order s) ∷ h, obeys.leads h led, open_, older (under_way h) (opening h) (shown kind order s) open_ ∙ found)
 
-  pub closed : (start : List Device) (s later : State M) (answer : Result Answer EngineFault) → Obeys kind superior order Close s answer later → Since start s → piles (shown kind order later) ≡ piles start
-  closed start s later answer obeys (h, led, open_, found) = ((obeys.lawful h led).closes refl open_).1 ∙ ap piles found
+  pub closed : (start : List Device) (s later : State M) (answer : Result Answer EngineFault) → Obeys kind superior order Close s answer later → Since start s
+      → (piles (shown kind order later) ≡ piles start) × ((h : History) × LedTo kind order h later)
+  closed start s later answer obeys (h, led, open_, found) =
+      (((obeys.lawful h led).closes refl open_).1 ∙ ap piles found, (at Close (shown kind order s) ∷ h, obeys.leads h led))

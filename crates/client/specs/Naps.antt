@@ -8,8 +8,9 @@ use Rattle.engine.specs.States.{state}
 use Rattle.history.specs.Attempts.{History}
 use Rattle.history.specs.Law.{LedTo}
 
--- whatever history led to the engine, each device has the words that it had before
+-- whatever history led to the engine, each device has the words that it had before, and some history leads to the engine after it
 abbrev pub GivesBack : {B : Type 0} (members : Ghosts B) → Engine B members → Engine B members → Type 0
 GivesBack members before after =
     (h : History) → LedTo members.kind (devices before.order) h (state members before)
-    → piles (members.kind.devices (members.model after.bank)) ≡ piles (members.kind.devices (members.model before.bank))
+    → (piles (members.kind.devices (members.model after.bank)) ≡ piles (members.kind.devices (members.model before.bank)))
+    × ((longer : History) × LedTo members.kind (devices before.order) longer (state members after))

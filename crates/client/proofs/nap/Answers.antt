@@ -1,13 +1,13 @@
 use Rattle.std.proofs.Common.{◌≡◌, true, false, refl, ap, subst, ◌∙◌, arith}
 use Rattle.std.specs.Prelude.{Ok, Err}
 use Rattle.order.specs.Answers.{Superior, devices}
-use Rattle.history.specs.declared.answer.Answer.TheVariants.{Opened, Stepped}
-use Rattle.history.specs.declared.call.Call.TheVariants.{Open, Step}
+use Rattle.history.specs.declared.answer.Answer.TheVariants.{Opened, Stepped, Closed}
+use Rattle.history.specs.declared.call.Call.TheVariants.{Open, Step, Close}
 use Rattle.history.specs.Law.{Obeys}
 use Rattle.engine.specs.States.{state, answered}
 use Rattle.engine.specs.Tickets.{owes_after}
 use Rattle.engine.proofs.Playing.{opens_more}
-use Rattle.client.proofs.Naps.{opened, stepped}
+use Rattle.client.proofs.Naps.{opened, stepped, closed}
 use Rattle.client.proofs.nap.Goals as goal
 
 pub loop-init : goal.loop-init
@@ -20,6 +20,16 @@ loop-init g c =
       opened = opens_more kind (devices order) (state g.B.Bank c.args.engine.now) (state g.B.Bank c.open.new.self) Open (answered (λ _. Opened) c.open.result) false c.open.ensures.answer c.open.ensures.after.0 (λ e. grind arith) (ap (owes_after false) is);
       since = λ h led. opened kind (Superior order.superiors) (devices order) (state g.B.Bank c.args.engine.now) (state g.B.Bank c.open.new.self) _ c.open.ensures.law is h led;
     }
+
+pub returns-clause-words : goal.returns-clause-words
+returns-clause-words g c =
+    let kind = g.B.Bank.kind in
+    let so = c.loop.invariant in
+    let order = c.args.engine.now.order in
+    let law : Obeys kind (Superior order.superiors) (devices order) Close (state g.B.Bank c.loop.engine) (Ok (Closed c.close.result)) (state g.B.Bank c.close.new.engine) =
+    subst (λ o. Obeys kind (Superior o.superiors) (devices o) Close (state g.B.Bank c.loop.engine) (Ok (Closed c.close.result)) (state g.B.Bank c.close.new.engine))
+    so.same c.close.ensures.law in
+    λ h led. closed kind (Superior order.superiors) (devices order) _ (state g.B.Bank c.loop.engine) (state g.B.Bank c.close.new.engine) _ law (so.since h led)
 
 pub loop-preserved : goal.loop-preserved
 loop-preserved g c =
