@@ -1,5 +1,6 @@
-"""What compare_banks.py and compare_engine.py have in common: a program is run over cases made by chance, in files of 200,
-and what it prints is held to the model's answers, and its status to 0."""
+"""What the programs compare*.py have in common: their arguments, and what they print of a comparison. And of those that
+run a program over cases made by chance, in files of 200, how they hold what it prints to the model's answers, and its
+status to 0."""
 
 import os
 import subprocess
@@ -12,13 +13,22 @@ SECONDS = 60              # how long the program may take over one file
 
 
 class Answered(NamedTuple):
-    """What a program answers: its crate, the file that it reads, and of the model the bytes and the answers of cases, and
-    cases by a seed and a count."""
+    """What a program answers: its crate, the file that it reads, and of the model the bytes and the answers of cases,
+    and cases by a seed and a count."""
     crate: str
     file: str
     data: Callable
     text: Callable
     more_cases: Callable
+    count: int = 2000         # how many cases are made where no count is given
+
+    def compare(self, program, count, seed):
+        """How many cases there were, and what was different."""
+        cases = list(self.more_cases(seed, count))
+        different = []
+        for first in range(0, len(cases), BATCH):
+            different += differences(program, self, cases[first:first + BATCH], first)
+        return len(cases), different
 
 
 def printed(program, name, data):
@@ -69,26 +79,20 @@ def differences(program, answered, cases, first):
     return different or ["case %d: there is more behind it" % (first + len(cases) - 1)]
 
 
-def compare(program, answered, count, seed):
-    cases = list(answered.more_cases(seed, count))
-    different = []
-    for first in range(0, count, BATCH):
-        different += differences(program, answered, cases[first:first + BATCH], first)
-    return different
-
-
-def main(arguments, answered):
+def main(arguments, compared):
+    """Compares a program with what the model says. `compared` has a crate, how many cases are made where no count is
+    given, and `compare`, which takes the program, a count and a seed."""
     if not 1 <= len(arguments) <= 3 or not all(number.isdigit() for number in arguments[1:]):
         sys.stderr.write("usage: python3 %s PROGRAM [COUNT [SEED]]\n" % os.path.basename(sys.argv[0]))
         return 2
     if not os.access(arguments[0], os.X_OK):
         sys.stderr.write("%s is no program; `rt run` in crates/%s builds one, out/%s\n"
-                         % (arguments[0], answered.crate, answered.crate))
+                         % (arguments[0], compared.crate, compared.crate))
         return 2
-    count = int(arguments[1]) if len(arguments) > 1 else 2000
+    count = int(arguments[1]) if len(arguments) > 1 else compared.count
     seed = int(arguments[2]) if len(arguments) > 2 else int.from_bytes(os.urandom(4), "little")
     print("seed %d" % seed, flush=True)
-    different = compare(os.path.abspath(arguments[0]), answered, count, seed)
+    count, different = compared.compare(os.path.abspath(arguments[0]), count, seed)
     for text in different[:10]:
         print("different: %s" % text)
     print("%d cases, %d different" % (count, len(different)))

@@ -5,6 +5,7 @@ import itertools
 import pickle
 
 import calls
+import enginecases_points
 import engines_wrong
 import engines_wrong_told
 import histories
@@ -129,6 +130,14 @@ def check_long():
     """The rules over the test histories and others. Says how many histories and calls."""
     made = [case for case in histories.CASES + list(more_cases(602, 250)) if is_made(case)]
     return len(made), sum(1 for case in made for _ in run(Engine, case))
+
+
+def check_points():
+    """The histories of one more call at every point of an attempt: what they are to be answered, and the rules."""
+    cases = list(enginecases_points.cases())
+    for case in cases:
+        histories.check_intent(case)
+    return len(cases), sum(1 for case in cases for _ in run(Engine, case))
 
 
 # --- The example of docs/RULES.md -------------------------------------------
@@ -278,6 +287,7 @@ def main():
     print("ok: all histories of small boards, %d states, %d calls" % check_small())
     print("ok: %d short histories" % check_short())
     print("ok: %d long histories, %d calls" % check_long())
+    print("ok: a call more at every point of an attempt, %d histories, %d calls" % check_points())
     check_coverage()
     print("ok: %d test histories, %d bytes" % (len(histories.CASES), check_reading()))
     print("ok: %d wrong engines are told apart" % check_wrong())
