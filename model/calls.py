@@ -92,7 +92,7 @@ def answers_text(cases):
 
 def print_list(cases):
     for number, case in enumerate(cases):
-        print("%3d  %2d  %s" % (number, case.shape, case.note))
+        print("%3d  %2s  %s" % (number, case.shape, case.note))
 
 
 def write_or_list(arguments, name, cases, data, text):

@@ -1,5 +1,5 @@
-"""Checks of the model: the documents' examples, all small graphs by brute force, the banks (selfcheck_banks.py), and the
-engine (selfcheck_engine.py)."""
+"""Checks of the model: the documents' examples, all small graphs by brute force, the banks (selfcheck_banks.py), the
+engine (selfcheck_engine.py), and runs (selfcheck_run.py)."""
 
 import itertools
 import os
@@ -9,6 +9,7 @@ import boards
 import fuldrik
 import selfcheck_banks
 import selfcheck_engine
+import selfcheck_run
 import sleeporder
 from making import Draft, device, link, plain_devices, plain_links
 
@@ -138,6 +139,7 @@ def main():
           % (len(boards.CASES), read, len(boards.boards_bytes())))
     selfcheck_banks.main()
     selfcheck_engine.main()
+    selfcheck_run.main()
     print("ok")
 
 
