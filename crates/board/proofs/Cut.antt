@@ -29,6 +29,7 @@ long file l =
     let q : Sized file → ⊥ = λ s. omega (arith, s.most) in
     record {
       front = refl;
+      as_long = λ k few. ((λ e. absurd (omega (arith, size, e, few))), (λ e. absurd (omega (arith, e, few))));
       whole = λ small. absurd (omega arith);
       refused = λ fault. (refused _ _ p q fault, refused _ _ q p fault);
       right = (right _ _ p, right _ _ q);
@@ -38,6 +39,7 @@ short : (file : List ℕ) → length file ≤ most_bytes → ReadOf file file
 short file l =
     record {
       front = sym (take_all (most_bytes + 1) file (omega arith));
+      as_long = λ k few. ((λ e. e), (λ e. e));
       whole = λ _. refl;
       refused = λ fault. ((λ r. r), (λ r. r));
       right = ((λ r. r), (λ r. r));

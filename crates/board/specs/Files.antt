@@ -10,5 +10,7 @@ pub record ReadOf (file bytes : List ℕ) : Type 0 where
   pub front : bytes ≡ take (most_bytes + 1) file
   -- a file that is not too long is read whole
   pub whole : length file ≤ most_bytes → bytes ≡ file
+  -- and so a file of so many bytes, where no more are allowed, is told by the bytes that are read
+  pub as_long : (k : ℕ) → k ≤ most_bytes → (length bytes ≡ k) ↔ (length file ≡ k)
   pub refused : (fault : BoardFault) → Refused bytes fault ↔ Refused file fault
   pub right : Right bytes ↔ Right file

@@ -3,7 +3,7 @@ mod checking;
 mod reading;
 
 ghost use Rattle.std.specs.Prelude.{◌≡◌, ◌+◌, vec_len};
-ghost use Rattle.boardfile.specs.Contents.{AsciiNames};
+ghost use Rattle.boardfile.specs.Contents.{AsciiNames, TellApart};
 
 use boardfile::device::{Device, Kinds, Link};
 use order::ordering::Order;
@@ -18,5 +18,6 @@ pub struct Board {
     order: Order,
     ghost many: { vec_len devices ≡ order.superiors.count },
     ghost ascii: { AsciiNames devices.items },
+    ghost told_apart: { TellApart devices.items },
     ghost kinds_sum: { kinds.register + kinds.bus + kinds.quiet ≡ order.superiors.count },
 }

@@ -23,7 +23,8 @@ fn read_up_to<R: Read + Drop>(heap: Global, reader: R, most: u64) -> io::Result<
     Ok(bytes)
 }
 
-// The bytes that a reader has; of more than a board file may have, just enough to show it.
+// The bytes that a reader has; of more than a board file may have, just enough to show it. That is enough for a fault sheet too,
+// which is shorter.
 pub fn read_file<R: Read + Drop>(heap: Global, reader: R) -> io::Result<Vec<u8>>
     ensures { IfOk result (λ bytes. IfSome (R.remaining reader) (λ file. ReadOf file bytes.items)) }
 {

@@ -1,5 +1,5 @@
 -- What the bytes of a board file say of its devices and links.
-use Rattle.std.specs.Prelude.{◌≡◌, ℕ, ◌<◌, cond, ◌⊎◌, List, [], map, length, Some, None, Ok, Err, Option, Result, ◌==◌, slice_index, slice_index_or}
+use Rattle.std.specs.Prelude.{◌≡◌, ◌≢◌, ℕ, ◌<◌, ◌≤◌, cond, ◌⊎◌, List, [], map, length, Some, None, Ok, Err, Option, Result, ◌==◌, slice_index, slice_index_or}
 use Rattle.std.specs.List.{range_with_len}
 use Rattle.boardfile.specs.declared.device.Name.{Name}
 use Rattle.boardfile.specs.declared.device.NotAName.{NotAName}
@@ -29,6 +29,13 @@ AsciiNames devices = (i k : ℕ) → slice_index (slice_index_or devices i blank
 -- 255 says that there is none
 abbrev pub parent : List ℕ → ℕ → Option ℕ
 parent bs i = cond (parent_byte bs i == 255) None (Some (parent_byte bs i))
+
+-- no name has more than 8 bytes, or a space or a dash in it, and no two devices have the same
+pub record TellApart (devices : List Device) : Type 0 where
+  pub short : (i : ℕ) → length (text (slice_index_or devices i blank).name) ≤ 8
+  pub plain : (i k : ℕ) → slice_index (text (slice_index_or devices i blank).name) k ≢ 32
+  pub dashless : (i k : ℕ) → slice_index (text (slice_index_or devices i blank).name) k ≢ 45
+  pub differ : (i j : ℕ) → i < j → j < length devices → text (slice_index_or devices i blank).name ≢ text (slice_index_or devices j blank).name
 
 abbrev pub device_of : List ℕ → ℕ → Device
 device_of bs i = record { name = record { padded = name_field bs i }; parent = parent bs i; word = word bs i }

@@ -1,7 +1,7 @@
 // From the bytes of a board file to the board, and what can be asked of it.
 ghost use Rattle.std.specs.Prelude.{◌≡◌, IfOk, vec_len};
 ghost use Rattle.boardfile.specs.Layout.{device_count};
-ghost use Rattle.boardfile.specs.Contents.{devices_of, links_of, AsciiNames};
+ghost use Rattle.boardfile.specs.Contents.{devices_of, links_of, AsciiNames, TellApart};
 ghost use Rattle.boardfile.specs.Laws.{Laws};
 ghost use Rattle.board.specs.Reading.{Reads, Exact};
 
@@ -17,7 +17,7 @@ use std::alloc::{AllocError, Global};
 impl Records<'_> {
     // The devices that the records describe.
     fn devices(&self, heap: Global) -> Result<Vec<Device>, AllocError>
-        ensures { IfOk result (λ v. (v.items ≡ devices_of self.now.frame.file.now) × (vec_len v ≡ device_count self.now.frame.file.now) × AsciiNames v.items) }
+        ensures { IfOk result (λ v. (v.items ≡ devices_of self.now.frame.file.now) × (vec_len v ≡ device_count self.now.frame.file.now) × AsciiNames v.items × TellApart v.items) }
     {
         let records = self.frame.devices.records();
         records.iter().filter_map(device_in).collect(heap)

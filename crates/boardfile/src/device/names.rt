@@ -52,7 +52,8 @@ impl TryFrom<&[u8]> for Name {
 impl Name {
     // The name without its padding.
     pub fn as_bytes(&self) -> &[u8]
-        ensures { result.now ≡ text self.now }
+        ensures text { result.now ≡ text self.now }
+        ensures most { length result.now ≤ 8 }
     {
         &self.padded[..name_size(&self.padded)]
     }

@@ -5,9 +5,9 @@ use Rattle.std.proofs.lemmas.Result.{IfOk-weaker}
 use Rattle.std.proofs.lemmas.List.FromFn.{length-map-range_with_len}
 use Rattle.boardfile.specs.Layout.{device_count}
 use Rattle.boardfile.specs.Contents.{device_of}
-use Rattle.boardfile.proofs.Naming.{ascii_names}
+use Rattle.boardfile.proofs.Naming.{ascii_names, tell_apart}
 use Rattle.board.specs.Records.{device_in}
-use Rattle.board.proofs.Known.{devices_known}
+use Rattle.board.proofs.Known.{framed_known, devices_known}
 use Rattle.board.proofs.Seen.{right_described}
 use Rattle.board.proofs.Filling.{all_described}
 use Rattle.board.proofs.records.Records.devices.Goals as goal
@@ -17,6 +17,7 @@ returns c =
     let bs = c.args.self.now.frame.file.now in
     let seen = c.args.self.now.frame.devices_known.holds in
     let right = devices_known c.args.self.now.devices in
+    let framed = framed_known c.args.self.now.frame.framed in
     let items = items_from_collect _ c.collect.ensures.ran (YieldsList-from_filter_map _ device_in (YieldsList-from_slice c.args.self.now.frame.devices.records.now (search rules)) c.filter_map.ensures.closure (λ x r q k. search (rules, tests))) in
     let all = all_described device_in (device_of bs) _ (device_count bs) seen.many (λ i l. ap device_in (seen.each i l) ∙ right_described bs i (right i l)) in
-    IfOk-weaker c.collect.result _ _ (λ v is. (is ∙ all, v.ok.0 ∙ (ap length (is ∙ all) ∙ length-map-range_with_len _ _ _), ascii_names bs right v.items (is ∙ all))) items
+    IfOk-weaker c.collect.result _ _ (λ v is. (is ∙ all, v.ok.0 ∙ (ap length (is ∙ all) ∙ length-map-range_with_len _ _ _), ascii_names bs right v.items (is ∙ all), tell_apart bs framed right v.items (is ∙ all))) items
