@@ -1,0 +1,6 @@
+pub mod Words
+pub mod Ready
+pub mod Exact
+pub mod Attempting
+pub mod Cells
+pub mod Asking

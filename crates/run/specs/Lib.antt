@@ -1,0 +1,3 @@
+pub mod Files
+pub mod Running
+pub mod Asking
