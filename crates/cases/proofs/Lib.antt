@@ -1,4 +1,5 @@
 pub mod Testing
 pub mod Outcome
+pub mod Sleeping
 pub mod Showing
 pub mod Proved

@@ -37,9 +37,26 @@ use Rattle.cases.specs.declared.sessions.SessionFault.{SessionFault}
 use Rattle.cases.specs.declared.sessions.SessionFault.TheVariants.{Bank as BankRefuses, Engine as EngineRefuses, Memory as NoSpace}
 use Rattle.cases.specs.Engines.{three_parts, one_quiet, alarm_first, alarm_first_answers, by_lcd, one_sleeps, one_sleeps_answers, one_sleeps_journal, one_wakes_journal, slept_alone, busy, busy_answers, busy_journal, refusing, refusing_answers, refusing_journal, ends}
 use Rattle.cases.specs.Sessions.{SessionAnswers}
-use Rattle.cases.specs.Injected.{Parts, BoardAnswers}
+use Rattle.cases.specs.Injected.{BoardAnswers}
+use Rattle.boardbank.specs.Boards.{Parts}
 use Rattle.cases.specs.Registers.{RegistersAnswer}
-use Rattle.cases.specs.Boards.{three_devices, four_devices, short, later_edition, no_devices, near_table, same_names, self_link, circle}
+use Rattle.cases.specs.Boards.{three_devices, four_devices, short, later_edition, no_devices, near_table, same_names, self_link, circle, one_device, busy_device}
+use Rattle.cases.specs.Files.{i2c_refuses, i2c_refuses_text, d_refuses, d_refuses_text, no_faults, one_sleeps_text, busy_text, short_sheet}
+use Rattle.lines.specs.declared.report.Report.{Report}
+use Rattle.program.specs.declared.fault.ProgramFault.{ProgramFault}
+use Rattle.program.specs.declared.fault.ProgramFault.TheVariants.{Board as OfBoard, Sheet, Buffer, NoDevice, NoLevel, Engine as OfEngine}
+use Rattle.program.specs.Faults.{told as run_told}
+use Rattle.refusal.specs.Lines.{line as refusal_line}
+use Rattle.bank.specs.declared.fault.BankFault.TheVariants.{NoDevice as NoBankDevice}
+use Rattle.history.specs.declared.fault.EngineFault.TheVariants.{Bank as OfBank, NoEntry}
+use Rattle.history.specs.declared.outcome.Outcome.{Outcome}
+use Rattle.history.specs.declared.outcome.Outcome.TheVariants as outcome
+use Rattle.history.specs.declared.phase.Phase.TheVariants.{Prepare}
+use Rattle.run.specs.Asking.{Asks}
+use Rattle.program.specs.declared.fault.RunFault.{RunFault}
+use Rattle.program.specs.declared.fault.RunFault.TheVariants.{Program, Memory as NoRunMemory}
+use Rattle.run.specs.Running.{Runs}
+use Rattle.runlisting.specs.Printing.{printed as run_printed}
 
 -- ---- what a board has
 
@@ -75,6 +92,14 @@ pub data Case : Type 0 where
   whole : Parts → List Call → List (Result Reply BankFault) → Case
   -- an engine of this order over such a bank answers these calls so; then it has this journal, and stands in this stage
   plays : Parts → List ℕ → List engine_call.Call → List (Result Answer EngineFault) → List Entry → Stage → Case
+  -- the board of this file, which has this order, is run with this sheet, and this text is printed of it
+  sleeps : List ℕ → List ℕ → List ℕ → List ℕ → Case
+  -- this file is refused so where it is run with this sheet, and this line is printed of it
+  stays : List ℕ → List ℕ → ProgramFault → List ℕ → Case
+  -- a what-if of these files, of which the board has this order, of this device and level and with this byte, has this outcome
+  asks : List ℕ → List ℕ → List ℕ → ℕ → ℕ → ℕ → Outcome → Case
+  -- this is the line of a refusal
+  tells : ProgramFault → List ℕ → Case
 
 -- a board with these contents, or want of memory
 abbrev pub HasRead : Contents → Result Board ReadFault → Type 0
@@ -95,13 +120,29 @@ HasPlayed answers journal stage (Err (BankRefuses fault)) = ⊥
 HasPlayed answers journal stage (Err (EngineRefuses fault)) = ⊥
 HasPlayed answers journal stage (Err NoSpace) = Unit {0}
 
--- whatever answer the reader's contract, or that of `register_answers`, `board_answers` or `run_session`, allows is the expected one
+-- this text is printed, or memory is wanting
+abbrev pub HasSlept : List ℕ → Result Report RunFault → Type 0
+HasSlept expected (Ok report) = run_printed (Ok report) ≡ expected
+HasSlept expected (Err (Program fault)) = ⊥
+HasSlept expected (Err NoRunMemory) = Unit {0}
+
+-- this outcome, or memory is wanting
+abbrev pub HasAsked : Outcome → Result Outcome RunFault → Type 0
+HasAsked expected (Ok outcome) = outcome ≡ expected
+HasAsked expected (Err (Program fault)) = ⊥
+HasAsked expected (Err NoRunMemory) = Unit {0}
+
+-- whatever answer the contract of `run`, that of `what_if`, the reader's contract, or that of `register_answers`, `board_answers` or `run_session`, allows is the expected one
 abbrev pub Holds : Case → Type 0
 Holds (reads bytes expected printed) = (r : Result Board ReadFault) → Reads bytes r → HasRead expected r
 Holds (refuses bytes fault printed) = (r : Result Board ReadFault) → Reads bytes r → r ≡ Err (BrokenBy fault)
 Holds (registers words calls answers) = (r : Result (Vec (Result Reply BankFault) Global) MakeFault) → RegistersAnswer words calls r → HasAnswered answers r
 Holds (whole parts calls answers) = (r : Result (Vec (Result Reply BankFault) Global) MakeFault) → BoardAnswers parts calls r → HasAnswered answers r
 Holds (plays parts order calls answers journal stage) = (r : Result Session SessionFault) → SessionAnswers parts order calls r → HasPlayed answers journal stage r
+Holds (sleeps board sheet order shown) = (ran : Result Report RunFault) → Runs board sheet ran → HasSlept shown ran
+Holds (stays board sheet fault shown) = (ran : Result Report RunFault) → Runs board sheet ran → (ran ≡ Err (Program fault)) × (run_printed ran ≡ shown)
+Holds (asks board sheet order device level byte outcome) = (r : Result Outcome RunFault) → Asks board sheet device level byte r → HasAsked outcome r
+Holds (tells fault shown) = refusal_line (run_told fault) ≡ shown
 
 -- this order, and no refusal
 abbrev pub HasOrder : List ℕ → Result Order BoardFault → Type 0
@@ -115,6 +156,10 @@ IsChecked (refuses bytes fault printed) = (r : Result Order BoardFault) → Chec
 IsChecked (registers words calls answers) = Unit {0}
 IsChecked (whole parts calls answers) = Unit {0}
 IsChecked (plays parts order calls answers journal stage) = Unit {0}
+IsChecked (sleeps board sheet order shown) = Unit {0}
+IsChecked (stays board sheet fault shown) = Unit {0}
+IsChecked (asks board sheet order device level byte outcome) = Unit {0}
+IsChecked (tells fault shown) = Unit {0}
 
 -- this text, or want of memory
 abbrev pub HasPrinted : List ℕ → Result (String Global) ListFault → Type 0
@@ -129,6 +174,10 @@ IsPrinted (refuses bytes fault shown) = (r : Result (String Global) ListFault) �
 IsPrinted (registers words calls answers) = Unit {0}
 IsPrinted (whole parts calls answers) = Unit {0}
 IsPrinted (plays parts order calls answers journal stage) = Unit {0}
+IsPrinted (sleeps board sheet order shown) = Unit {0}
+IsPrinted (stays board sheet fault shown) = Unit {0}
+IsPrinted (asks board sheet order device level byte outcome) = Unit {0}
+IsPrinted (tells fault shown) = Unit {0}
 
 abbrev pub cases : List Case
 cases =
@@ -175,6 +224,20 @@ cases =
     ∷ plays one_quiet (0 ∷ []) (one_sleeps ++ Close ∷ []) (one_sleeps_answers ++ ends slept_alone ∷ []) (one_sleeps_journal ++ one_wakes_journal) stage.Awake
     ∷ plays (record { registers = 0x80000000 ∷ []; buses = []; quiets = []; cells = [] }) (0 ∷ []) busy busy_answers busy_journal stage.Awake
     ∷ plays (three_parts 110) (0 ∷ 1 ∷ 2 ∷ []) refusing refusing_answers refusing_journal stage.Awake
+    ∷ sleeps three_devices i2c_refuses (0 ∷ 1 ∷ 2 ∷ []) i2c_refuses_text
+    ∷ sleeps four_devices d_refuses (1 ∷ 3 ∷ 0 ∷ 2 ∷ []) d_refuses_text
+    ∷ sleeps one_device no_faults (0 ∷ []) one_sleeps_text
+    ∷ sleeps busy_device no_faults (0 ∷ []) busy_text
+    ∷ stays circle [] (OfBoard (Circle 0)) (codes "! 3 7 0\n")
+    ∷ stays three_devices short_sheet Sheet (codes "! 3 8 0\n")
+    ∷ stays short [] (OfBoard Size) (codes "! 3 1 0\n")
+    ∷ asks three_devices i2c_refuses (0 ∷ 1 ∷ 2 ∷ []) 1 2 0 (outcome.Slept None 12)
+    ∷ asks three_devices i2c_refuses (0 ∷ 1 ∷ 2 ∷ []) 2 1 7 (outcome.Fault 7 2 Prepare 2)
+    ∷ tells Buffer (codes "! 3 11 0")
+    ∷ tells (NoDevice 9) (codes "! 3 12 9")
+    ∷ tells NoLevel (codes "! 3 13 0")
+    ∷ tells (OfEngine NoEntry 12) (codes "! 2 25 0")
+    ∷ tells (OfEngine (OfBank (NoBankDevice 9) 5) 2) (codes "! 1 12 9")
     ∷ []
 
 -- the board file of a case, if it has one
@@ -184,6 +247,10 @@ board_of (refuses bytes fault printed) = Some bytes
 board_of (registers words calls answers) = None
 board_of (whole parts calls answers) = None
 board_of (plays parts order calls answers journal stage) = None
+board_of (sleeps board sheet order shown) = None
+board_of (stays board sheet fault shown) = None
+board_of (asks board sheet order device level byte outcome) = None
+board_of (tells fault shown) = None
 
 abbrev pub boards : List (List ℕ)
 boards = filter_map board_of cases

@@ -14,7 +14,7 @@ use Rattle.history.specs.declared.outcome.Outcome.{Outcome}
 use Rattle.history.specs.declared.outcome.Outcome.TheVariants as outcome
 use Rattle.history.specs.declared.phase.Phase.{Phase}
 use Rattle.history.specs.declared.phase.Phase.TheVariants.{Prepare, Suspend, Late, Noirq}
-use Rattle.cases.specs.Injected.{Parts}
+use Rattle.boardbank.specs.Boards.{Parts}
 
 -- clk, i2c and lcd, of which a cell hinders i2c by this errno on its way into level 2
 abbrev pub three_parts : ℕ → Parts

@@ -1,4 +1,5 @@
 pub mod Boards
+pub mod Files
 pub mod Cases
 pub mod Registers
 pub mod Injected

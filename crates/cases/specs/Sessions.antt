@@ -1,5 +1,5 @@
 -- What an engine over the bank of a board answers that is just made, and where it stands afterwards.
-use Rattle.std.specs.Prelude.{◌≡◌, ℕ, ◌<◌, List, [], Ok, Err, Result, vec_items}
+use Rattle.std.specs.Prelude.{◌≡◌, ℕ, ◌<◌, List, Ok, Err, Result, vec_items}
 use Rattle.bank.specs.declared.fault.BankFault.TheVariants.{TooMany}
 use Rattle.bank.specs.declared.fault.MakeFault.{MakeFault as BankMakeFault}
 use Rattle.bank.specs.declared.fault.MakeFault.TheVariants.{Bank as Refused, Memory as NoRoom}
@@ -8,19 +8,15 @@ use Rattle.engine.specs.declared.engine.making.MakeFault.TheVariants.{Engine as 
 use Rattle.bank.specs.Laws.{Kind}
 use Rattle.bank.specs.Meaning.{most_devices}
 use Rattle.history.specs.declared.call.Call.{Call}
-use Rattle.history.specs.declared.standing.Standing.TheVariants.{Awake}
 use Rattle.history.specs.Attempts.{stage_of}
-use Rattle.history.specs.Rules.{State, all_said, after_all}
+use Rattle.history.specs.Rules.{all_said, after_all}
+use Rattle.attempt.specs.Runs.{just_made}
 use Rattle.engine.specs.Making.{Unready}
 use Rattle.engine.specs.Tickets.{Owes}
-use Rattle.cases.specs.Injected.{Parts, board_kind, board_model, device_number}
+use Rattle.boardbank.specs.Boards.{Parts, board_kind, board_model, device_number}
 use Rattle.cases.specs.declared.sessions.Session.{Session}
 use Rattle.cases.specs.declared.sessions.SessionFault.{SessionFault}
 use Rattle.cases.specs.declared.sessions.SessionFault.TheVariants.{Bank, Engine, Memory}
-
--- an engine that is just made over a bank that stands for this model
-abbrev pub just_made : {M : Type 0} → M → State M
-just_made m = record { model = m; standing = Awake; journal = [] }
 
 -- what calls of an engine of this order over a bank that stands for m answer; no refusal of a bank comes, since the bank is there
 abbrev pub RunAnswers : {M : Type 0} → Kind M → M → List ℕ → List Call → Result Session SessionFault → Type 0

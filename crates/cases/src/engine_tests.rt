@@ -2,13 +2,13 @@
 ghost use Rattle.std.specs.Prelude.{◌≡◌, true};
 ghost use Rattle.engine.specs.Tickets.{is_open};
 
-use crate::boardbank::{BoardBank, board_bank};
 use crate::sessions::{Session, run_session};
 use crate::worked_board;
 use bank::bank::Bank;
 use bank::fault::BankFault;
 use banks::quiet::quiet_bank;
 use board::board::Board;
+use boardbank::{BoardBank, board_bank};
 use client::nap;
 use engine::engine::Engine;
 use engine::engine::making::{MakeFault, Unmade};

@@ -1,7 +1,6 @@
 // The worked cases: board files, calls of banks and calls of engines, and what is to come of each.
 #![tactic(auto)]
 
-mod boardbank;
 pub mod sessions;
 
 ghost use Rattle.std.specs.Prelude.{◌≡◌, ◌<◌, ◌≤◌, [], length, MatchOption, slice_index_or};
@@ -9,11 +8,11 @@ ghost use Rattle.cases.specs.Cases.{AllHold, AllChecked, AllPrinted, boards};
 ghost use Rattle.cases.specs.Injected.{BoardAnswers};
 ghost use Rattle.cases.specs.Registers.{RegistersAnswer};
 
-use crate::boardbank::board_bank;
 use bank::call::{Call, Reply};
 use bank::fault::{BankFault, MakeFault};
 use bank::playing::play;
 use banks::register::register_bank;
+use boardbank::board_bank;
 use std::alloc::Global;
 
 // clk, i2c and lcd: read with the order 0, 1, 2.
@@ -131,5 +130,7 @@ pub fn board_answers(
 mod bank_tests;
 #[cfg(test)]
 mod engine_tests;
+#[cfg(test)]
+mod run_tests;
 #[cfg(test)]
 mod tests;

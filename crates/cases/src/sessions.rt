@@ -4,9 +4,9 @@ ghost use Rattle.order.specs.Answers.{devices};
 ghost use Rattle.cases.specs.Sessions.{RunAnswers, SessionAnswers, bank_unmade, engine_unmade};
 ghost use Rattle.cases.specs.declared.sessions.SessionFault.TheVariants.{Memory as Want};
 
-use crate::boardbank::board_bank;
 use bank::bank::Bank;
 use bank::fault::{BankFault, MakeFault as BankMakeFault};
+use boardbank::board_bank;
 use engine::engine::Engine;
 use engine::engine::making::{MakeFault, Unmade};
 use engine::engine::playing::Played;

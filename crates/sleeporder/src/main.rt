@@ -1,21 +1,11 @@
 // sleeporder: prints the order in which the devices of the board in `board.bin` go to sleep, or why the file is refused.
 #![tactic(auto)]
 
-use board::file::read_file;
+use host::{asks_for_help, bytes_of};
+use listing::help::HELP;
 use listing::printing::{ListFault, list, write_listed};
-use std::fs::File;
-use std::io::{self, ErrorKind};
+use std::io::{self, Write};
 use std::process::ExitCode;
-
-// The bytes of a file, or none where it cannot be read. Where there is no memory for them, nothing is known of the file, and
-// that is answered.
-fn bytes_of(rt: &HostRuntime, path: &str) -> Result<Vec<u8>, ListFault> {
-    match File::open(rt, path).and_then(|file| read_file(rt.alloc(), file)) {
-        Ok(bytes) => Ok(bytes),
-        Err(e) if e.kind() == ErrorKind::OutOfMemory => Err(ListFault::Memory),
-        Err(_) => Ok(Vec::new(rt.alloc())),
-    }
-}
 
 // The lines of the board file in the current folder.
 fn lines_of_board(rt: &HostRuntime) -> Result<String, ListFault> {
@@ -37,7 +27,17 @@ fn print_order(rt: &HostRuntime) -> io::Result<ExitCode> {
     }
 }
 
+fn print_help(rt: &HostRuntime) -> io::Result<ExitCode> {
+    io::writer(rt).write_all(HELP.as_bytes())?;
+    Ok(ExitCode::SUCCESS)
+}
+
 // Where nothing can be written, the program ends with status 1 too.
 fn main(rt: HostRuntime) -> ExitCode {
-    print_order(&rt).unwrap_or(ExitCode::FAILURE)
+    let printed = if asks_for_help(&rt) {
+        print_help(&rt)
+    } else {
+        print_order(&rt)
+    };
+    printed.unwrap_or(ExitCode::FAILURE)
 }
