@@ -1,107 +1,29 @@
-//! Compares the proved library with the plain Rust version in `plain.rs`: first that they answer the same, then their speed.
-//! `bench BOARDS` reads the test boards that the model made.
+//! Compares the proved library with the plain Rust version in `plain.rs` and `runs.rs`: first that they answer the same, then
+//! their speed. `bench BOARDS RUNS` reads the test boards and the test runs that the model made.
 
+mod boards;
 mod plain;
+mod proved;
+mod runs;
 
-use plain::Refusal;
+use boards::{Chance, board, board_cases, damage, even_board, run_cases, seated_board, sheet};
+use proved::Cell;
 use std::hint::black_box;
 use std::time::Instant;
 
-mod ffi {
-    unsafe extern "C" {
-        pub fn fuldrik_board_order(file: *const u8, len: usize, places: *mut u8, room: usize) -> u8;
-        pub fn fuldrik_refusal_number(file: *const u8, len: usize) -> u8;
-        pub fn fuldrik_refusal_place(file: *const u8, len: usize) -> u32;
-    }
-}
-
-/// The proved library's order: how many devices there are in `places`, or 0 where the file is refused.
-fn proved_order(file: &[u8], places: &mut [u8; 64]) -> usize {
-    // The library reads `file` and writes `places`, each within its length, and keeps neither.
-    let count = unsafe {
-        ffi::fuldrik_board_order(file.as_ptr(), file.len(), places.as_mut_ptr(), places.len())
-    };
-    count as usize
-}
-
-fn proved_refusal(file: &[u8]) -> Refusal {
-    // As above.
-    let (number, place) = unsafe {
-        (
-            ffi::fuldrik_refusal_number(file.as_ptr(), file.len()),
-            ffi::fuldrik_refusal_place(file.as_ptr(), file.len()),
-        )
-    };
-    Refusal { number, place: place as usize }
-}
-
-fn same_answer(file: &[u8]) -> bool {
+fn same_order(file: &[u8]) -> bool {
     let mut places = [0; 64];
-    let count = proved_order(file, &mut places);
+    let count = proved::order(file, &mut places);
     match plain::check(file) {
-        Ok(order) => proved_refusal(file).number == 0 && order.devices() == &places[..count],
-        Err(refusal) => count == 0 && proved_refusal(file) == refusal,
+        Ok(order) => proved::refusal(file).number == 0 && order.devices() == &places[..count],
+        Err(refusal) => count == 0 && proved::refusal(file) == refusal,
     }
 }
 
-/// A small generator of numbers, the same in every run.
-struct Chance(u64);
-
-impl Chance {
-    fn below(&mut self, limit: usize) -> usize {
-        self.0 = self.0.wrapping_mul(6364136223846793005).wrapping_add(1442695040888963407);
-        (self.0 >> 33) as usize % limit
-    }
-}
-
-/// A board file of n devices and m links, in which superiors come earlier in a hidden row.
-fn board(chance: &mut Chance, n: usize, m: usize) -> Vec<u8> {
-    let mut row: Vec<u8> = (0..n as u8).collect();
-    for k in (1..n).rev() {
-        row.swap(k, chance.below(k + 1));
-    }
-    let mut parents = vec![255; n];
-    for k in 1..n {
-        if chance.below(3) == 0 {
-            parents[row[k] as usize] = row[chance.below(k)];
-        }
-    }
-    let mut file = Vec::new();
-    for (i, parent) in parents.iter().enumerate() {
-        let mut name = format!("device{i}").into_bytes();
-        name.resize(8, 0);
-        file.extend(name);
-        file.extend([*parent, 0, 0, 0]);
-        file.extend((i as u32).to_le_bytes());
-    }
-    for _ in 0..m {
-        let k = 1 + chance.below(n - 1);
-        file.extend([row[k], row[chance.below(k)], 0, 0]);
-    }
-    file.extend(b"SLPB");
-    file.extend([1, n as u8, 0, 0]);
-    file.extend((m as u16).to_le_bytes());
-    file.extend([0, 0]);
-    file.extend(((16 * n + 4 * m) as u16).to_le_bytes());
-    file.extend(((4 * m) as u16).to_le_bytes());
-    file
-}
-
-/// The cases of a file of test boards: each is its length, in two bytes, and then that many bytes.
-fn cases(all: &[u8]) -> Vec<&[u8]> {
-    let (mut rest, mut cases) = (all, Vec::new());
-    while let [low, high, tail @ ..] = rest {
-        let (case, after) = tail.split_at(u16::from_le_bytes([*low, *high]) as usize);
-        cases.push(case);
-        rest = after;
-    }
-    cases
-}
-
-fn compare(boards: &[u8]) -> usize {
+fn compare_orders(boards: &[u8]) -> usize {
     let mut compared = 0;
-    for (number, case) in cases(boards).iter().enumerate() {
-        assert!(same_answer(case), "case {number}");
+    for (number, case) in board_cases(boards).iter().enumerate() {
+        assert!(same_order(case), "case {number}");
         compared += 1;
     }
     let mut chance = Chance(7);
@@ -109,25 +31,87 @@ fn compare(boards: &[u8]) -> usize {
         let n = 2 + chance.below(63);
         let m = chance.below(257);
         let mut file = board(&mut chance, n, m);
-        for _ in 0..chance.below(4) {
-            let place = chance.below(file.len());
-            file[place] = chance.below(256) as u8;
-        }
-        assert!(same_answer(&file), "{file:?}");
+        damage(&mut chance, &mut file);
+        assert!(same_order(&file), "{file:?}");
         compared += 1;
     }
     compared
 }
 
-/// Orders per second over these files.
-fn speed(files: &[Vec<u8>], rounds: usize, check: impl Fn(&[u8]) -> usize) -> f64 {
+/// A number that no outcome has.
+const UNWRITTEN: u16 = 9999;
+
+/// The outcome's numbers, or the number of the refusal. Whatever is not to be written is as it was.
+fn told(answer: u8, values: [u16; 6]) -> Result<[u16; 5], u8> {
+    let [numbers @ .., last] = values;
+    assert_eq!(last, UNWRITTEN);
+    if answer == 0 {
+        return Ok(numbers);
+    }
+    assert_eq!(numbers, [UNWRITTEN; 5]);
+    Err(answer)
+}
+
+/// That both run these files to the same end, and that four places are too few for the numbers.
+fn same_run(file: &[u8], sheet: &[u8]) -> bool {
+    let (mut values, mut few) = ([UNWRITTEN; 6], [UNWRITTEN; 4]);
+    let answer = proved::run(file, sheet, &mut values);
+    assert_eq!((proved::run(file, sheet, &mut few), few), (254, [UNWRITTEN; 4]));
+    let plain = runs::run(file, sheet);
+    told(answer, values) == plain.map(|report| report.outcome.values()).map_err(|refusal| refusal.number)
+}
+
+/// The same of a what-if, and that both leave the sheet as it was.
+fn same_what_if(file: &[u8], sheet: &[u8], cell: Cell) -> bool {
+    let (mut values, mut few) = ([UNWRITTEN; 6], [UNWRITTEN; 4]);
+    let mut lent = sheet.to_vec();
+    let answer = proved::what_if(file, &mut lent, cell, &mut values);
+    assert_eq!((proved::what_if(file, &mut lent, cell, &mut few), few), (254, [UNWRITTEN; 4]));
+    assert_eq!(lent, sheet);
+    let plain = runs::what_if(file, &mut lent, cell.0, cell.1, cell.2);
+    assert_eq!(lent, sheet);
+    told(answer, values) == plain.map(|outcome| outcome.values()).map_err(|refusal| refusal.number)
+}
+
+/// How many runs and how many what-ifs were compared.
+fn compare_runs(runs: &[u8]) -> (usize, usize) {
+    let (mut ran, mut asked) = (0, 0);
+    for (number, case) in run_cases(runs).iter().enumerate() {
+        match case.asked {
+            None => assert!(same_run(case.file, case.sheet), "run {number}"),
+            Some(cell) => assert!(same_what_if(case.file, case.sheet, cell), "run {number}"),
+        }
+        ran += usize::from(case.asked.is_none());
+        asked += usize::from(case.asked.is_some());
+    }
+    let mut chance = Chance(8);
+    for _ in 0..20_000 {
+        let n = 2 + chance.below(63);
+        let m = chance.below(257);
+        let mut file = seated_board(&mut chance, n, m);
+        if chance.below(2) == 0 {
+            damage(&mut chance, &mut file);
+        }
+        let sheet = sheet(&mut chance, n);
+        assert!(same_run(&file, &sheet), "{file:?} {sheet:?}");
+        let byte = [0, chance.byte()][chance.below(2)];
+        let cell = (chance.below(n + 2) as u8, chance.below(6) as u8, byte);
+        assert!(same_what_if(&file, &sheet, cell), "{file:?} {sheet:?} {cell:?}");
+        ran += 1;
+        asked += 1;
+    }
+    (ran, asked)
+}
+
+/// Calls per second over these inputs.
+fn speed<T, R>(inputs: &mut [T], rounds: usize, call: impl Fn(&mut T) -> R) -> f64 {
     let start = Instant::now();
     for _ in 0..rounds {
-        for file in files {
-            black_box(check(black_box(file)));
+        for input in &mut *inputs {
+            black_box(call(black_box(input)));
         }
     }
-    (rounds * files.len()) as f64 / start.elapsed().as_secs_f64()
+    (rounds * inputs.len()) as f64 / start.elapsed().as_secs_f64()
 }
 
 fn median(mut values: Vec<f64>) -> f64 {
@@ -135,23 +119,91 @@ fn median(mut values: Vec<f64>) -> f64 {
     values[values.len() / 2]
 }
 
-fn measure(n: usize, m: usize) {
-    let mut chance = Chance(64);
-    let files: Vec<Vec<u8>> = (0..16).map(|_| board(&mut chance, n, m)).collect();
-    let (mut proved, mut plain) = (Vec::new(), Vec::new());
+/// Times both in turns, and prints the medians.
+fn race<T, P, Q>(
+    what: &str,
+    inputs: &mut [T],
+    rounds: usize,
+    proved: impl Fn(&mut T) -> P,
+    plain: impl Fn(&mut T) -> Q,
+) {
+    let (mut proved_speeds, mut plain_speeds) = (Vec::new(), Vec::new());
     for _ in 0..15 {
-        proved.push(speed(&files, 1000, |file| proved_order(file, &mut [0; 64])));
-        plain.push(speed(&files, 1000, |file| plain::check(file).map_or(0, |order| order.devices().len())));
+        proved_speeds.push(speed(inputs, rounds, &proved));
+        plain_speeds.push(speed(inputs, rounds, &plain));
     }
-    let (proved, plain) = (median(proved), median(plain));
-    println!("{n} devices, {m} links: proved {proved:.0}, plain {plain:.0} boards per second; ratio {:.2}", proved / plain);
+    let (proved, plain) = (median(proved_speeds), median(plain_speeds));
+    println!("proved {proved:.0}, plain {plain:.0} {what} per second; ratio {:.2}", proved / plain);
+}
+
+fn measure_orders(n: usize, m: usize) {
+    let mut chance = Chance(64);
+    let mut files: Vec<Vec<u8>> = (0..16).map(|_| board(&mut chance, n, m)).collect();
+    print!("{n} devices, {m} links: ");
+    race(
+        "boards",
+        &mut files,
+        1000,
+        |file| proved::order(file, &mut [0; 64]),
+        |file| plain::check(file).map_or(0, |order| order.devices().len()),
+    );
+}
+
+/// What is timed of a run and of a what-if.
+struct Files {
+    board: Vec<u8>,
+    sheet: Vec<u8>,
+    cell: Cell,
+}
+
+/// A board that sleeps and wakes with cells that are all 0, and a cell by chance that is to hinder its device.
+fn sleeper(chance: &mut Chance, n: usize, m: usize) -> Files {
+    let sheet = vec![0; 4 * n];
+    loop {
+        let board = even_board(chance, n, m);
+        if matches!(runs::run(&board, &sheet), Ok(report) if report.outcome.values()[0] == 0) {
+            let cell = (chance.below(n) as u8, 1 + chance.below(4) as u8, 110);
+            return Files { board, sheet, cell };
+        }
+    }
+}
+
+fn measure_runs(n: usize, m: usize) {
+    let mut chance = Chance(64);
+    let mut files: Vec<Files> = (0..16).map(|_| sleeper(&mut chance, n, m)).collect();
+    let rounds = 12_800 / n;
+    print!("{n} devices, {m} links: ");
+    race(
+        "runs",
+        &mut files,
+        rounds,
+        |of| proved::run(&of.board, &of.sheet, &mut [0; 5]),
+        |of| runs::run(&of.board, &of.sheet),
+    );
+    print!("{n} devices, {m} links: ");
+    race(
+        "what-ifs",
+        &mut files,
+        rounds,
+        |of| proved::what_if(&of.board, &mut of.sheet, of.cell, &mut [0; 5]),
+        |of| runs::what_if(&of.board, &mut of.sheet, of.cell.0, of.cell.1, of.cell.2),
+    );
 }
 
 fn main() {
-    let path = std::env::args().nth(1).expect("usage: bench BOARDS");
-    let boards = std::fs::read(path).expect("the test boards");
-    println!("the same answers for {} boards, good and damaged", compare(&boards));
+    let paths: Vec<String> = std::env::args().skip(1).collect();
+    let [boards, runs] = &paths[..] else {
+        panic!("usage: bench BOARDS RUNS");
+    };
+    let boards = std::fs::read(boards).expect("the test boards");
+    let runs = std::fs::read(runs).expect("the test runs");
+    println!("the same answers for {} boards, good and damaged", compare_orders(&boards));
+    let (ran, asked) = compare_runs(&runs);
+    println!("the same answers for {ran} runs and {asked} what-ifs, good and damaged");
     for (n, m) in [(3, 1), (16, 32), (64, 256)] {
-        measure(n, m);
+        measure_orders(n, m);
+    }
+    for (n, m) in [(3, 1), (16, 32), (64, 256)] {
+        measure_runs(n, m);
     }
 }

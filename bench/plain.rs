@@ -11,7 +11,7 @@ pub struct Refusal {
     pub place: usize,
 }
 
-fn refuse<T>(number: u8, place: usize) -> Result<T, Refusal> {
+pub fn refuse<T>(number: u8, place: usize) -> Result<T, Refusal> {
     Err(Refusal { number, place })
 }
 
@@ -125,11 +125,51 @@ fn order(n: usize, superiors: &[u64; MOST_DEVICES]) -> Result<Order, Refusal> {
     }
 }
 
+fn order_of(tables: &Tables) -> Result<Order, Refusal> {
+    let mut superiors = [0; MOST_DEVICES];
+    let n = read_devices(tables, &mut superiors)?;
+    read_links(tables, n, &mut superiors)?;
+    order(n, &superiors)
+}
+
 /// The order of the board that a board file describes, or its refusal.
 pub fn check(file: &[u8]) -> Result<Order, Refusal> {
+    order_of(&tables(file)?)
+}
+
+/// What a run needs of a device. Its name is there for who prints the report.
+#[allow(dead_code)]
+#[derive(Debug, Clone, Copy)]
+pub struct Device {
+    pub name: [u8; 8],
+    pub word: u32,
+}
+
+/// The devices of a board by number: first those in registers, then those on the bus, then the quiet ones.
+#[derive(Debug)]
+pub struct Board {
+    pub devices: Vec<Device>,
+    pub registers: usize,
+    pub buses: usize,
+    pub order: Order,
+}
+
+fn device(record: &[u8]) -> Device {
+    let (mut name, mut word) = ([0; 8], [0; 4]);
+    name.copy_from_slice(&record[..8]);
+    word.copy_from_slice(&record[12..]);
+    Device { name, word: u32::from_le_bytes(word) }
+}
+
+/// The board that a board file describes, or its refusal.
+pub fn read(file: &[u8]) -> Result<Board, Refusal> {
     let tables = tables(file)?;
-    let mut superiors = [0; MOST_DEVICES];
-    let n = read_devices(&tables, &mut superiors)?;
-    read_links(&tables, n, &mut superiors)?;
-    order(n, &superiors)
+    let order = order_of(&tables)?;
+    let trailer = &file[file.len() - 16..];
+    Ok(Board {
+        devices: tables.devices.chunks_exact(16).map(device).collect(),
+        registers: trailer[5] as usize,
+        buses: trailer[6] as usize,
+        order,
+    })
 }

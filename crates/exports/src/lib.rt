@@ -1,6 +1,8 @@
 // The library for callers in C and Rust, over numbers and slices of bytes. A slice goes as a pointer and a length.
 #![tactic(auto)]
 
+mod runs;
+
 ghost use Rattle.std.specs.Prelude.{◌≡◌, ◌≤◌, length};
 ghost use Rattle.exports.specs.Exports.{Writes, OrderWritten, NumberOf, PlaceOf, Tells};
 
