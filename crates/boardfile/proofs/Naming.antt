@@ -79,7 +79,7 @@ plain_text field named mark low high k = elim (cases_lt k (name_size field)) [
 ]
 
 pub tell_apart : (bs : List ℕ) → Framed bs → RightDevices bs → (devices : List Device) → devices ≡ devices_of bs → TellApart devices
-tell_apart bs framed right devices is = rw is (record { short = short; plain = lacks 32 (lit< tt) (lit< tt); dashless = lacks 45 (lit< tt) (lit< tt); differ = differ })
+tell_apart bs framed right devices is = rw is (record { short = short; spaceless = lacks 32 (lit< tt) (lit< tt); dashless = lacks 45 (lit< tt) (lit< tt); differ = differ })
   where
     inside : (i : ℕ) → i < device_count bs → get_or (devices_of bs) i blank ≡ device_of bs i
     inside i l = get_or-map-range_with_len (device_of bs) 0 (device_count bs) i i blank l (omega arith)

@@ -33,7 +33,7 @@ parent bs i = cond (parent_byte bs i == 255) None (Some (parent_byte bs i))
 -- no name has more than 8 bytes, or a space or a dash in it, and no two devices have the same
 pub record TellApart (devices : List Device) : Type 0 where
   pub short : (i : ℕ) → length (text (slice_index_or devices i blank).name) ≤ 8
-  pub plain : (i k : ℕ) → slice_index (text (slice_index_or devices i blank).name) k ≢ 32
+  pub spaceless : (i k : ℕ) → slice_index (text (slice_index_or devices i blank).name) k ≢ 32
   pub dashless : (i k : ℕ) → slice_index (text (slice_index_or devices i blank).name) k ≢ 45
   pub differ : (i j : ℕ) → i < j → j < length devices → text (slice_index_or devices i blank).name ≢ text (slice_index_or devices j blank).name
 

@@ -8,7 +8,7 @@ use Rattle.cases.proofs.Showing.{Passes, holds, is_checked, is_printed, of_each}
 all_pass : AllByRecursion Passes cases
 unfolding digits
 all_pass =
-    ((refl, refl, refl), ((refl, refl, refl), ((refl, refl), ((refl, refl), ((refl, refl), ((refl, refl), ((refl, refl), ((refl, refl), ((refl, refl), ((lit≤ tt, refl), ((lit≤ tt, refl), ((lit≤ tt, refl), ((lit≤ tt, refl), ((lit≤ tt, refl, refl, refl, refl, refl), ((lit≤ tt, refl, refl, refl, refl, refl), ((lit≤ tt, refl, refl, refl, refl, refl), ((lit≤ tt, refl, refl, refl, refl, refl), ((lit≤ tt, refl, refl, refl, refl, refl), ((lit≤ tt, refl, refl, refl, refl, refl), ((refl, refl, refl), ((refl, refl, refl), ((refl, refl, refl), ((refl, refl, refl), ((refl, refl), (((0 ∷ 1 ∷ 2 ∷ [], refl, refl), refl), ((refl, refl), ((refl, refl, lit< tt, (lit≤ tt, lit≤ tt), refl, refl), ((refl, refl, lit< tt, (lit≤ tt, lit≤ tt), refl, refl), (refl, (refl, (refl, (refl, (refl, tt)))))))))))))))))))))))))))))))))
+    ((refl, refl, refl), ((refl, refl, refl), ((refl, refl), ((refl, refl), ((refl, refl), ((refl, refl), ((refl, refl), ((refl, refl), ((refl, refl), ((lit≤ tt, refl), ((lit≤ tt, refl), ((lit≤ tt, refl), ((lit≤ tt, refl), ((lit≤ tt, refl, refl, refl, refl, refl), ((lit≤ tt, refl, refl, refl, refl, refl), ((lit≤ tt, refl, refl, refl, refl, refl), ((lit≤ tt, refl, refl, refl, refl, refl), ((lit≤ tt, refl, refl, refl, refl, refl), ((lit≤ tt, refl, refl, refl, refl, refl), ((refl, refl, refl, refl), ((refl, refl, refl, refl), ((refl, refl, refl, refl), ((refl, refl, refl, refl), ((refl, refl), (((0 ∷ 1 ∷ 2 ∷ [], refl, refl), refl), ((refl, refl), ((refl, refl, lit< tt, (lit≤ tt, lit≤ tt), refl, refl), ((refl, refl, lit< tt, (lit≤ tt, lit≤ tt), refl, refl), (refl, (refl, (refl, (refl, (refl, tt)))))))))))))))))))))))))))))))))
 
 pub all_hold : AllHold
 all_hold = of_each holds cases all_pass

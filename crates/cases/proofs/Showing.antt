@@ -53,7 +53,7 @@ use Rattle.run.specs.Asking.{cell}
 use Rattle.program.specs.Faults.{told as run_told}
 use Rattle.refusal.specs.Lines.{line as refusal_line}
 use Rattle.runlisting.specs.Printing.{printed as run_printed}
-use Rattle.cases.proofs.Sleeping.{run_text, run_outcome, sleeps_so, stays_so, asks_so}
+use Rattle.cases.proofs.Sleeping.{run_text, run_count, run_outcome, sleeps_so, stays_so, asks_so}
 use Rattle.std.proofs.lemmas.Bool.Decides.{nat_tests}
 use Rattle.bank.specs.Runs.{answers_to}
 use Rattle.bankrules.specs.Rules.{each_with_one}
@@ -165,7 +165,7 @@ Passes (plays parts order calls answers journal stage) =
     × (all_said board_kind order (just_made (board_model parts)) calls ≡ answers)
     × ((after_all board_kind order (just_made (board_model parts)) calls).journal ≡ journal)
     × (stage_of (after_all board_kind order (just_made (board_model parts)) calls).standing ≡ stage)
-Passes (sleeps bytes sheet order shown) = (outcome bytes ≡ Ok order) × (length sheet ≡ device_cells * device_count bytes) × (run_text bytes sheet order ≡ shown)
+Passes (sleeps bytes sheet order calls shown) = (outcome bytes ≡ Ok order) × (length sheet ≡ device_cells * device_count bytes) × (run_count bytes sheet order ≡ calls) × (run_text bytes sheet order ≡ shown)
 Passes (asks bytes sheet order device level byte outcome') =
     (outcome bytes ≡ Ok order) × (length sheet ≡ device_cells * device_count bytes) × (device < device_count bytes) × ((1 ≤ level) × (level ≤ 4))
     × (length (set sheet (cell device level) byte) ≡ device_cells * device_count bytes) × (run_outcome bytes (set sheet (cell device level) byte) order ≡ outcome')
@@ -207,7 +207,7 @@ holds (refuses bytes fault shown) (e, _) = refuses_holds bytes fault e
 holds (registers words calls answers) (few, e) = registers_hold words calls answers few e
 holds (whole parts calls answers) (few, e) = whole_holds parts calls answers few e
 holds (plays parts order calls answers journal stage) passes = plays_hold parts order calls answers journal stage passes
-holds (sleeps bytes sheet order shown) (e, long, same) = let right = subst (IsRight bytes) e (outcome_right bytes) in sleeps_so bytes sheet order right.0 right.1 long shown same
+holds (sleeps bytes sheet order calls shown) (e, long, count, same) = let right = subst (IsRight bytes) e (outcome_right bytes) in sleeps_so bytes sheet order right.0 right.1 long calls count shown same
 holds (asks bytes sheet order device level byte outcome') (e, long, known, (least, most), still, same) =
     let right = subst (IsRight bytes) e (outcome_right bytes) in
     asks_so bytes sheet order right.0 right.1 device level byte long known (record { least = least; most = most }) still outcome' same
@@ -220,7 +220,7 @@ is_checked (refuses bytes fault shown) (e, _) = refuses_checked bytes fault e
 is_checked (registers words calls answers) _ = tt
 is_checked (whole parts calls answers) _ = tt
 is_checked (plays parts order calls answers journal stage) _ = tt
-is_checked (sleeps bytes sheet order shown) _ = tt
+is_checked (sleeps bytes sheet order calls shown) _ = tt
 is_checked (stays bytes sheet fault shown) _ = tt
 is_checked (asks bytes sheet order device level byte outcome') _ = tt
 is_checked (tells fault shown) _ = tt
@@ -231,7 +231,7 @@ is_printed (refuses bytes fault shown) (e, same) = λ r answer. let is = refuses
 is_printed (registers words calls answers) _ = tt
 is_printed (whole parts calls answers) _ = tt
 is_printed (plays parts order calls answers journal stage) _ = tt
-is_printed (sleeps bytes sheet order shown) _ = tt
+is_printed (sleeps bytes sheet order calls shown) _ = tt
 is_printed (stays bytes sheet fault shown) _ = tt
 is_printed (asks bytes sheet order device level byte outcome') _ = tt
 is_printed (tells fault shown) _ = tt

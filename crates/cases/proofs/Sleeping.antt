@@ -1,5 +1,5 @@
 -- What is printed of a run, computed from the bytes of both files.
-use Rattle.std.proofs.Common.{◌≡◌, ◌*◌, ◌<◌, ℕ, List, ◌∷◌, ◌++◌, length, replicate, set, Ok, Err, Result, refl, ap, sym, ◌∙◌}
+use Rattle.std.proofs.Common.{◌≡◌, ◌+◌, ◌*◌, ◌<◌, ℕ, List, ◌∷◌, ◌++◌, length, replicate, set, Ok, Err, Result, refl, ap, sym, ◌∙◌}
 use Rattle.std.specs.List.{flat_map}
 use Rattle.std.specs.Prelude.{None}
 use Rattle.attempt.specs.Runs.{just_made, step_count, run_calls}
@@ -28,7 +28,7 @@ use Rattle.run.specs.Running.{Runs, Ran}
 use Rattle.run.specs.Asking.{Asks, IsLevel, cell}
 use Rattle.run.proofs.Exact.{files_unfit, files_once, asking_unfit}
 use Rattle.runlisting.specs.Printing.{ended, printed, report_lines}
-use Rattle.cases.specs.Cases.{HasSlept, HasAsked}
+use Rattle.cases.specs.Cases.{HasSlept, HasStayed, HasAsked}
 
 -- the outcome in the answer to a close
 abbrev outcome_in : Result Answer EngineFault → Outcome
@@ -46,6 +46,10 @@ module _ (bs sheet : List ℕ) where
   run_outcome order =
       let m = board_model (parts bs sheet) in
       outcome_in (said board_kind order (after_all board_kind order (just_made m) (Open ∷ replicate (step_count board_kind order m) Step)) Close)
+
+  -- how many calls it has, with the making
+  abbrev pub run_count : List ℕ → ℕ
+  run_count order = 1 + length (run_calls board_kind order (board_model (parts bs sheet)))
 
   -- the lines of the run of an engine of this order
   abbrev pub run_text : List ℕ → List ℕ
@@ -74,16 +78,19 @@ module _ (bs sheet : List ℕ) where
         ran.attempt.journal ∙ ap (λ (os : List ℕ). (after_all board_kind os (just_made m) (run_calls board_kind os m)).journal) (same_order report ran) in
         rw (ran.board.devices, j, ends_so report ran) refl
 
-    pub sleeps_so : (shown : List ℕ) → run_text order ≡ shown → (r : Result Report RunFault) → Runs bs sheet r → HasSlept shown r
-    sleeps_so shown same (Ok report) (_, ran) = prints report ran ∙ same
-    sleeps_so shown same (Err (Program fault)) refused = absurd (files_unfit bs sheet fault refused fit)
-    sleeps_so shown same (Err Memory) _ = tt
+    counts : (report : Report) → Ran bs sheet report → report.attempt.calls ≡ run_count order
+    counts report ran = ran.attempt.count ∙ ap (λ (os : List ℕ). 1 + length (run_calls board_kind os (board_model (parts bs sheet)))) (same_order report ran)
+
+    pub sleeps_so : (calls : ℕ) → run_count order ≡ calls → (shown : List ℕ) → run_text order ≡ shown → (r : Result Report RunFault) → Runs bs sheet r → HasSlept calls shown r
+    sleeps_so calls count shown same (Ok report) (_, ran) = (counts report ran ∙ count, prints report ran ∙ same, refl)
+    sleeps_so calls count shown same (Err (Program fault)) refused = absurd (files_unfit bs sheet fault refused fit)
+    sleeps_so calls count shown same (Err Memory) _ = tt
 
   pub stays_so : (fault : ProgramFault) → RefusesFiles bs sheet fault → (shown : List ℕ) → printed (Err (Program fault)) ≡ shown
-      → (r : Result Report RunFault) → Runs bs sheet r → (r ≡ Err (Program fault)) × (printed r ≡ shown)
+      → (r : Result Report RunFault) → Runs bs sheet r → HasStayed fault shown r
   stays_so fault refused shown same (Ok report) (fits, _) = absurd (files_unfit bs sheet fault refused fits)
   stays_so fault refused shown same (Err (Program other)) so =
-      let e : Err (Program other) ≡ Err (Program fault) = ap (λ f. Err (Program f)) (files_once bs sheet other fault so refused) in (e, ap printed e ∙ same)
+      let e : Err (Program other) ≡ Err (Program fault) = ap (λ f. Err (Program f)) (files_once bs sheet other fault so refused) in (e, ap printed e ∙ same, refl)
   stays_so fault refused shown same (Err Memory) fits = absurd (files_unfit bs sheet fault refused fits)
 
 -- a what-if whose changed sheet has this outcome

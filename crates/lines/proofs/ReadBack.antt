@@ -125,7 +125,7 @@ module _ (devices : List Device) (told : TellApart devices) where
   ]
 
   Plain-device : (d : ℕ) → Plain (name_of devices d)
-  Plain-device d = record { plain = told.plain d }
+  Plain-device d = record { plain = told.spaceless d }
 
   Plain-device_or_none : (device : Option ℕ) → Plain (name_or_none devices device)
   Plain-device_or_none None = Plain-written _ refl

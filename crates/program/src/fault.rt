@@ -39,9 +39,9 @@ pub struct Called {
 // Why there is no answer.
 #[derive(Clone, Copy, PartialEq, Eq, Debug)]
 pub enum RunFault {
-    // It is refused.
+    // The program refuses.
     Program { fault: ProgramFault },
-    // There is no memory for it.
+    // There is no memory for what was asked.
     Memory,
 }
 
@@ -53,7 +53,7 @@ impl From<BoardFault> for ProgramFault {
     }
 }
 
-// It travels whole.
+// The engine's fault travels whole, with a bank's inside where one refused.
 impl From<Called> for ProgramFault {
     ghost from_gives = { λ called r. r ≡ OfEngine called.fault called.calls };
 

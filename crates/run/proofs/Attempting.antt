@@ -45,6 +45,6 @@ module _ (bs sheet : List ℕ) (fit : Fit bs sheet) (board : Board) (says : Says
       let start = just_made (board_model (parts bs sheet)) in
       let calls = run_calls board_kind (devices board.order) (board_model (parts bs sheet)) in
       all_among board_kind (SuperiorIn bs) (Superior board.order.superiors) says.superiors.adds (devices board.order) calls [] start
-          (all_said board_kind (devices board.order) start calls) (after_all board_kind (devices board.order) start calls) made.law in
+      (all_said board_kind (devices board.order) start calls) (after_all board_kind (devices board.order) start calls) made.law in
       (fit, record { board = subst (λ (b : Board). Says bs b) (sym same) says; attempt = rw same made; law = subst (λ (b : Board). KeepsLaw bs sheet (devices b.order)) (sym same) law })
   has_run (Err fault) why = unrefused fault why

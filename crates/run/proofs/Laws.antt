@@ -13,8 +13,19 @@ module _ {M : Type 0} (kind : Kind M) (R S : ℕ → ℕ → Type 0) (among : (s
       → Lawful kind S order h call s answer later → Lawful kind R order h call s answer later
   lawful_among h call s answer later l =
       record {
-        answers = l.answers; refuses = l.refuses; unaltered = l.unaltered; lowers = l.lowers; stops = l.stops; ends_early = l.ends_early;
-        keeps = l.keeps; adds_up = l.adds_up; all_deepest = l.all_deepest; raises = l.raises; closes = l.closes; puts = l.puts; rests = l.rests;
+        answers = l.answers;
+        refuses = l.refuses;
+        unaltered = l.unaltered;
+        lowers = l.lowers;
+        stops = l.stops;
+        ends_early = l.ends_early;
+        keeps = l.keeps;
+        adds_up = l.adds_up;
+        all_deepest = l.all_deepest;
+        raises = l.raises;
+        closes = l.closes;
+        puts = l.puts;
+        rests = l.rests;
         words = l.words;
         depths =
             record {
@@ -22,7 +33,10 @@ module _ {M : Type 0} (kind : Kind M) (R S : ℕ → ℕ → Type 0) (among : (s
               superior_left = λ x d r. l.depths.superior_left x d (among x d r);
               near = l.depths.near;
             };
-        stands = l.stands; records = l.records; notes = l.notes; endings = l.endings;
+        stands = l.stands;
+        records = l.records;
+        notes = l.notes;
+        endings = l.endings;
       }
 
   pub all_among : (calls : List Call) (h : History) (s : State M) (answers : List (Result Answer EngineFault)) (later : State M)

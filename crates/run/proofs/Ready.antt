@@ -1,6 +1,8 @@
 -- The bank of a board that is just made: as many devices as the board has, all of them at level 0.
-use Rattle.std.proofs.Common.{◌≡◌, ℕ, zero, suc, ◌≤◌, List, [], ◌∷◌, ◌++◌, length, get_or, ap, sym, ◌∙◌, inl, inr, arith}
+use Rattle.std.proofs.Common.{◌≡◌, ℕ, ◌+◌, zero, suc, ◌≤◌, List, [], ◌∷◌, ◌++◌, length, get_or, refl, ap, sym, ◌∙◌, inl, inr, arith}
 use Rattle.std.proofs.lemmas.List.{map-append, length-map}
+use Rattle.std.proofs.lemmas.Simd.{map-map}
+use Rattle.std.specs.List.{range_with_len}
 use Rattle.bank.specs.Meaning.{Device, level, piles, greatest_errno}
 use Rattle.bankrules.specs.Rules.{each_with_one, devices_of}
 use Rattle.bankrules.specs.Register.{register_kind, register_hinders}
@@ -12,12 +14,12 @@ use Rattle.bankrules.proofs.Ruling.{ruled_piles}
 use Rattle.board.specs.declared.board.Board.{Board}
 use Rattle.board.specs.Reading.{Says}
 use Rattle.boardbank.specs.Boards.{Parts, board_kind, board_model}
-use Rattle.boardfile.specs.Layout.{device_count}
+use Rattle.boardfile.specs.Layout.{device_count, register_count, bus_count, quiet_count, word}
 use Rattle.engine.specs.Making.{IsReady, Unready}
 use Rattle.history.specs.declared.fault.EngineFault.{EngineFault}
 use Rattle.history.proofs.Schedules.{pile_at, count_from_piles}
 use Rattle.order.specs.Answers.{devices}
-use Rattle.run.specs.Files.{parts}
+use Rattle.run.specs.Files.{Starts, parts}
 use Rattle.run.proofs.Words.{all_words}
 use Rattle.std.proofs.lemmas.List.FromFn.{length-map-range_with_len}
 
@@ -54,6 +56,17 @@ module _ (bs sheet : List ℕ) (board : Board) (says : Says bs board) where
         count = board_count (parts bs sheet) ∙ ap length (all_words bs) ∙ length-map-range_with_len _ 0 (device_count bs) ∙ sym says.order.0.permutes.long;
         running = board_running (parts bs sheet);
       }
+
+-- its devices are those of the file
+pub starts : (bs sheet : List ℕ) → Starts bs sheet
+starts bs sheet =
+    record {
+      piles = board_piles (parts bs sheet) ∙ ap each_with_one (all_words bs) ∙ map-map (λ (w : ℕ). w ∷ []) (word bs) (range_with_len 0 (device_count bs));
+      registers = length-map-range_with_len _ 0 (register_count bs);
+      buses = length-map-range_with_len _ (register_count bs) (bus_count bs);
+      quiets = length-map-range_with_len _ (register_count bs + bus_count bs) (quiet_count bs);
+      cells = refl;
+    }
 
 -- an engine is never refused that is ready
 pub not_unready : (order : List ℕ) (now : List Device) (fault : EngineFault) → IsReady order now → Unready order now fault → ⊥

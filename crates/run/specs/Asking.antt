@@ -1,5 +1,6 @@
 -- What a what-if answers.
 use Rattle.std.specs.Prelude.{◌≡◌, ◌≢◌, ◌↔◌, ℕ, ◌+◌, ◌-◌, ◌*◌, ◌<◌, ◌≤◌, true, List, set, is_ok, Ok, Err, Result}
+use Rattle.bankrules.specs.Injections.{cell_into_next}
 use Rattle.boardfile.specs.Layout.{device_count}
 use Rattle.history.specs.declared.outcome.Outcome.{Outcome}
 use Rattle.lines.specs.declared.report.Report.{Report}
@@ -19,6 +20,11 @@ pub record IsLevel (level : ℕ) : Type 0 where
 abbrev pub cell : ℕ → ℕ → ℕ
 cell device level = device_cells * device + level - 1
 
+-- the byte is what an injector then has for the device on its way into that level, and for no other device or level anything changes
+pub record WritesCell (sheet : List ℕ) (device level byte : ℕ) : Type 0 where
+  pub there : cell_into_next (set sheet (cell device level) byte) device (level - 1) ≡ byte
+  pub elsewhere : (d l : ℕ) → ((d ≡ device) × (l + 1 ≡ level) → ⊥) → cell_into_next (set sheet (cell device level) byte) d l ≡ cell_into_next sheet d l
+
 -- the outcome of a run, or want of memory; the files are not refused
 abbrev pub OutcomeOf : List ℕ → List ℕ → Result Outcome RunFault → Type 0
 OutcomeOf bs sheet (Ok outcome) = (report : Report) × Ran bs sheet report × (outcome ≡ report.attempt.outcome)
@@ -31,6 +37,10 @@ module _ (bs sheet : List ℕ) (device level : ℕ) where
     pub files : Fit bs sheet
     pub known : device < device_count bs
     pub leads : IsLevel level
+
+  -- the cell that is written is that of the device for the level
+  abbrev pub Fits : ℕ → Type 0
+  Fits byte = CanAsk → WritesCell sheet device level byte
 
   -- refused so: the files are tested first, then the device, then the level
   abbrev pub RefusesAsking : ProgramFault → Type 0

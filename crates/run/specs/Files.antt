@@ -1,8 +1,9 @@
 -- A board file and a fault sheet: when they are refused, and the bank of their board.
-use Rattle.std.specs.Prelude.{◌≡◌, ◌≢◌, ℕ, ◌+◌, ◌*◌, List, length, map, take, drop, vec_items, Ok, Err, Result}
+use Rattle.std.specs.Prelude.{◌≡◌, ◌≢◌, ℕ, ◌+◌, ◌*◌, List, [], ◌∷◌, length, map, take, drop, vec_items, Ok, Err, Result}
 use Rattle.std.specs.List.{range_with_len}
+use Rattle.bank.specs.Meaning.{piles}
 use Rattle.board.specs.declared.board.Board.{Board}
-use Rattle.boardbank.specs.Boards.{Parts, board_model}
+use Rattle.boardbank.specs.Boards.{Parts, board_kind, board_model}
 use Rattle.boardfile.specs.declared.device.Device.{Device}
 use Rattle.boardfile.specs.Faults.{Refused, Right}
 use Rattle.boardfile.specs.Layout.{device_count, register_count, bus_count, quiet_count, word}
@@ -42,6 +43,15 @@ parts bs sheet =
       quiets = words bs (register_count bs + bus_count bs) (quiet_count bs);
       cells = sheet;
     }
+
+-- The numbers of the file are those of its bank: device d begins at level 0, with the word of its record. The three banks have the
+-- counts of the trailer, and the cells are the sheet's.
+pub record Starts (bs sheet : List ℕ) : Type 0 where
+  pub piles : piles (board_kind.devices (board_model (parts bs sheet))) ≡ map (λ (d : ℕ). word bs d ∷ []) (range_with_len 0 (device_count bs))
+  pub registers : length (parts bs sheet).registers ≡ register_count bs
+  pub buses : length (parts bs sheet).buses ≡ bus_count bs
+  pub quiets : length (parts bs sheet).quiets ≡ quiet_count bs
+  pub cells : (parts bs sheet).cells ≡ sheet
 
 -- the words that a board holds
 abbrev pub held : Board → List ℕ

@@ -1,5 +1,5 @@
 // A run: from the bytes of a board file and of a fault sheet to what is told of it.
-ghost use Rattle.run.specs.Files.{Fit};
+ghost use Rattle.run.specs.Files.{Fit, Starts};
 ghost use Rattle.run.specs.Running.{ReportsOver, Runs, ExactRun};
 
 use crate::files::{bank_of, check_files};
@@ -44,6 +44,7 @@ fn run_files(heap: Global, board: &[u8], sheet: &[u8]) -> Result<Report, RunFaul
 pub fn run(heap: Global, board: &[u8], sheet: &[u8]) -> Result<Report, RunFault>
     ensures runs { Runs board.now sheet.now result }
     ensures exact { ExactRun board.now sheet.now result }
+    ensures starts { Starts board.now sheet.now }
 {
     run_files(heap, board, sheet)
 }

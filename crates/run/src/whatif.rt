@@ -1,6 +1,6 @@
 // What-ifs: how a run would end with another byte in one cell of its sheet.
 ghost use Rattle.std.specs.Prelude.{◌≡◌, ◌<◌, length, set, slice_index_or, MatchResult};
-ghost use Rattle.run.specs.Asking.{Asks, CanAsk, ExactAnswer, OutcomeOf, RefusesAsking, cell};
+ghost use Rattle.run.specs.Asking.{Asks, CanAsk, ExactAnswer, Fits, OutcomeOf, RefusesAsking, cell};
 ghost use Rattle.run.specs.Files.{Fit};
 
 use crate::files::check_files;
@@ -91,7 +91,7 @@ fn ask(
 
 // How a run would end with this byte in the cell of a device for a level. On every way out the sheet is as it was. Refused where the
 // run is, then where there is no such device, then where there is no such level.
-#[tactic(auto, using(crate::proofs::Exact::exact_answer))]
+#[tactic(auto, using(crate::proofs::Exact::exact_answer, crate::proofs::Cells::fits))]
 pub fn what_if(
     heap: Global,
     board: &[u8],
@@ -103,6 +103,7 @@ pub fn what_if(
     ensures same { sheet.new ≡ sheet.old }
     ensures answer { Asks board.now sheet.old device level byte result }
     ensures exact { ExactAnswer board.now sheet.old device level result }
+    ensures cell { Fits board.now sheet.old device level byte }
 {
     ask(heap, board, sheet, device, level, byte)
 }

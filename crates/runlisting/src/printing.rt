@@ -16,11 +16,11 @@ use std::io;
 // How a run ended for the program that prints it.
 #[derive(Clone, Copy, PartialEq, Eq, Debug)]
 pub enum Ending {
-    // The board went down and came up again.
+    // The board was run, and its journal and outcome are printed.
     Ran,
-    // A file was refused.
+    // A file was refused, and the refusal is printed.
     Refused,
-    // There was no memory for it.
+    // There was no memory for it, and nothing is printed.
     WantsMemory,
 }
 

@@ -80,7 +80,7 @@ fn call<B: Bank>(engine: &mut Engine<B>) -> Result<(u16, Outcome), Called>
     Ok((steps, close(engine, ticket)))
 }
 
-// The same. The journal and the outcome name devices of the order alone.
+// Makes these calls; the journal and the outcome then name devices of the order alone.
 fn go<B: Bank>(engine: &mut Engine<B>) -> Result<(u16, Outcome), Called>
     requires { state ⟦<B as Bank>⟧ engine.old ≡ just_made (B.model engine.old.bank) }
     ensures { Goes ⟦<B as Bank>⟧ engine.old engine.new result }
