@@ -137,7 +137,8 @@ HasAsked expected (Ok outcome) = outcome ≡ expected
 HasAsked expected (Err (Program fault)) = ⊥
 HasAsked expected (Err NoRunMemory) = Unit {0}
 
--- whatever answer the contract of `run`, that of `what_if`, the reader's contract, or that of `register_answers`, `board_answers` or `run_session`, allows is the expected one
+-- whatever answer the contract of `Board::read`, `register_answers`, `board_answers`, `run_session`, `run` or `what_if` allows is
+-- the expected one; and a refusal has the line that is expected
 abbrev pub Holds : Case → Type 0
 Holds (reads bytes expected printed) = (r : Result Board ReadFault) → Reads bytes r → HasRead expected r
 Holds (refuses bytes fault printed) = (r : Result Board ReadFault) → Reads bytes r → r ≡ Err (BrokenBy fault)

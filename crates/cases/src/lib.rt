@@ -1,4 +1,5 @@
-// The worked cases: board files, calls of banks and calls of engines, and what is to come of each.
+// The worked cases: board files, calls of banks and of engines, whole runs, what-ifs and lines of refusals, and what is to
+// come of each.
 #![tactic(auto)]
 
 pub mod sessions;
@@ -89,7 +90,8 @@ const BOARDS: [&[u8]; 9] = [
 
 // The board file of a worked case. That the cases hold is proved of every answer that the contract of the reader allows, of
 // every answer that the contract of the check without memory allows, of every answer that the contract of `list` allows, and of
-// those with calls of banks or engines of every answer that the contracts below, or that of `run_session`, allow.
+// those with calls of banks or engines, runs or what-ifs of every answer that the contracts below, or those of `run_session`,
+// `run` and `what_if`, allow.
 pub fn worked_board(case: usize) -> Option<&'static [u8]>
     ensures bytes { MatchOption result (length boards ≤ «case») (λ bytes. («case» < length boards) × (bytes.now ≡ slice_index_or boards «case» [])) }
     ensures hold { AllHold }

@@ -29,7 +29,7 @@ abbrev pub place : Result Order BoardFault → ℕ
 place (Ok order) = 0
 place (Err fault) = (told fault).place
 
--- each of the answer that the check of these bytes gives
+-- each speaks of an answer that the check of these bytes may give
 
 abbrev pub OrderWritten : List ℕ → List ℕ → List ℕ → ℕ → Type 0
 OrderWritten bs before after n = (r : Result Order BoardFault) × Checks bs r × Answers r before after n

@@ -27,7 +27,7 @@ abbrev pub OutcomeTold : Result Outcome RunFault → List ℕ → List ℕ → �
 OutcomeTold (Ok outcome) before after n = (n ≡ 0) × (after ≡ five_numbers outcome ++ drop 5 before)
 OutcomeTold (Err fault) before after n = (n ≡ number_of_fault fault) × (after ≡ before)
 
--- each of the answer that the run, or the what-if, of these bytes gives
+-- each speaks of an answer that the run, or the what-if, of these bytes may give
 
 abbrev pub RunTold : List ℕ → List ℕ → List ℕ → List ℕ → ℕ → Type 0
 RunTold bs sheet before after n = (r : Result Report RunFault) × Runs bs sheet r × OutcomeTold (outcome_in r) before after n

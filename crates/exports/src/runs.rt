@@ -1,4 +1,4 @@
-// A whole run and a whole what-if for the same callers. The outcome goes out as five numbers.
+// A whole run and a whole what-if for callers in C and Rust. The outcome goes out as five numbers.
 ghost use Rattle.std.specs.Prelude.{◌≡◌, ◌↔◌, ◌<◌, ◌≤◌, ◌++◌, IsTrue, length, drop};
 ghost use Rattle.exports.specs.Runs.{AskTold, OutcomeTold, RunTold, five_numbers, number_of_fault, outcome_in};
 

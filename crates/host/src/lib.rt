@@ -7,7 +7,7 @@ use std::env::Env;
 use std::fs::File;
 use std::io::ErrorKind;
 
-// The bytes of a file, or none where it cannot be read. Where there is no memory for them, nothing is known of the file, and
+// The bytes of a file; no bytes where it cannot be read. Where there is no memory for them, nothing is known of the file, and
 // that is answered.
 pub fn bytes_of(rt: &HostRuntime, path: &str) -> Result<Vec<u8>, AllocError> {
     match File::open(rt, path).and_then(|file| read_file(rt.alloc(), file)) {

@@ -20,7 +20,7 @@ pub record IsLevel (level : ℕ) : Type 0 where
 abbrev pub cell : ℕ → ℕ → ℕ
 cell device level = device_cells * device + level - 1
 
--- the byte is what an injector then has for the device on its way into that level, and for no other device or level anything changes
+-- the byte is what an injector then has for the device on its way into that level; for any other device or level nothing changes
 pub record WritesCell (sheet : List ℕ) (device level byte : ℕ) : Type 0 where
   pub there : cell_into_next (set sheet (cell device level) byte) device (level - 1) ≡ byte
   pub elsewhere : (d l : ℕ) → ((d ≡ device) × (l + 1 ≡ level) → ⊥) → cell_into_next (set sheet (cell device level) byte) d l ≡ cell_into_next sheet d l
