@@ -9,6 +9,7 @@ from bankmaking import (LEAVES, SHAPES, Case, Free, Injector, Pair, any_way, bus
                         lower, put, quiet, raise_, register)
 from fuldrik import Refused
 from making import Chance
+from reading import Reader
 
 
 # --- The examples of docs/RULES.md ------------------------------------------
@@ -272,20 +273,8 @@ def check_free():
 
 # --- The test calls ---------------------------------------------------------
 
-class Reader:
+class CallsReader(Reader):
     """Reads calls.bin as README.md has it."""
-
-    def __init__(self, data):
-        self.data = data
-        self.place = 0
-
-    def bytes(self, count):
-        assert self.place + count <= len(self.data)
-        self.place += count
-        return self.data[self.place - count:self.place]
-
-    def number(self, size):
-        return int.from_bytes(self.bytes(size), "little")
 
     def words(self):
         return tuple(self.number(4) for _ in range(self.number(1)))
@@ -308,7 +297,7 @@ class Reader:
 def check_reading():
     """The bytes of the test calls say the cases that they were made of."""
     data = calls.calls_bytes(calls.CASES)
-    reader = Reader(data)
+    reader = CallsReader(data)
     for case in calls.CASES:
         assert reader.case() == (case.part, [call[:3] for call in case.calls]), case.note
     assert reader.place == len(data)

@@ -204,7 +204,7 @@ def check_wrong():
 
 # --- The test histories -----------------------------------------------------
 
-class Reader(selfcheck_banks.Reader):
+class HistoriesReader(selfcheck_banks.CallsReader):
     """Reads histories.bin as README.md has it."""
 
     def history(self):
@@ -217,7 +217,7 @@ class Reader(selfcheck_banks.Reader):
 def check_reading():
     """The bytes of the test histories say the cases that they were made of."""
     data = histories.histories_bytes(histories.CASES)
-    reader = Reader(data)
+    reader = HistoriesReader(data)
     for case in histories.CASES:
         expected = case.part, [call[:3] for call in case.before], case.board, [call[:3] for call in case.calls]
         assert reader.history() == expected, case.note

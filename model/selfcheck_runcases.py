@@ -5,26 +5,15 @@ import fuldrik
 import runs
 import runs_wrong
 import runs_wrong_lines
+from reading import Reader
 from runmaking import OUTCOME
 from running import Running
 
 
 # --- Reading ----------------------------------------------------------------
 
-class Reader:
+class RunsReader(Reader):
     """Reads runs.bin as README.md has it."""
-
-    def __init__(self, data):
-        self.data = data
-        self.place = 0
-
-    def bytes(self, count):
-        assert self.place + count <= len(self.data)
-        self.place += count
-        return self.data[self.place - count:self.place]
-
-    def number(self, size):
-        return int.from_bytes(self.bytes(size), "little")
 
     def case(self):
         letter = self.bytes(1).decode("ascii")
@@ -36,7 +25,7 @@ class Reader:
 def check_reading():
     """The bytes of the test runs say the cases that they were made of."""
     data = runs.runs_bytes(runs.CASES)
-    reader = Reader(data)
+    reader = RunsReader(data)
     for case in runs.CASES:
         assert reader.case() == (case.letter, case.data, case.sheet, case.call), case.note
     assert reader.place == len(data) < 450000
