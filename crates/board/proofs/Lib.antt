@@ -1,6 +1,7 @@
 pub mod Filling
 pub mod Names
 pub mod Known
+pub mod Wires
 pub mod Seen
 pub mod Firsts
 pub mod Gathering

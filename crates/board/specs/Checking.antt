@@ -4,6 +4,11 @@ use Rattle.order.specs.declared.ordering.Order.{Order}
 use Rattle.boardfile.specs.declared.fault.BoardFault.{BoardFault}
 use Rattle.boardfile.specs.Faults.{Refused, Right}
 use Rattle.board.specs.Wiring.{Ordered}
+use Rattle.board.specs.declared.board.checked.Checked.{Checked}
+
+-- the bytes of a checked file
+abbrev pub file_of : Checked → List ℕ
+file_of checked = checked.records.frame.file.now
 
 -- the answer, by cases
 abbrev pub Checks : List ℕ → Result Order BoardFault → Type 0

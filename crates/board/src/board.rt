@@ -1,4 +1,5 @@
 // A board: its devices and links, and the order of its devices.
+pub mod checked;
 mod checking;
 mod reading;
 

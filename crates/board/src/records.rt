@@ -1,5 +1,6 @@
 // The records of a board file: which are right.
 ghost use Rattle.std.specs.Prelude.{◌≡◌, ℕ, ◌<◌, [], length, take, Decides, MatchOption, MatchResult, ◌≢◌, slice_index_or};
+ghost use Rattle.std.specs.Int.{w64, to_le_bytes};
 ghost use Rattle.boardfile.specs.Layout.{device_count, link_count};
 ghost use Rattle.boardfile.specs.Rules.{RightDevice, RightDevices, RightLink, RightLinks, FirstWrong};
 ghost use Rattle.boardfile.specs.Faults.{Refused};
@@ -19,18 +20,20 @@ pub(crate) struct Records<'a> {
     ghost links: { ∥ RightLinks frame.file.now ∥₁ },
 }
 
-// The name that a device record has, with its padding.
-fn name_in(bytes: &DeviceRecord) -> &[u8]
-    ensures { result.now ≡ take 8 bytes.now }
+// The name that a device record has, with its padding, as one number.
+fn name_in(bytes: &DeviceRecord) -> u64
+    ensures { to_le_bytes w64 result ≡ take 8 bytes.now }
 {
-    &bytes[..8]
+    let [a, b, c, d, e, f, g, h, ..] = *bytes;
+    u64::from_le_bytes([a, b, c, d, e, f, g, h])
 }
 
 // Whether no earlier record has the same name.
 fn is_new(earlier: &[DeviceRecord], bytes: &DeviceRecord) -> bool
     ensures { Decides result ((j : ℕ) → j < length earlier.now → take 8 (slice_index_or earlier.now j []) ≢ take 8 bytes.now) }
 {
-    earlier.iter().all(|other| name_in(other) != name_in(bytes))
+    let name = name_in(bytes);
+    earlier.iter().all(|other| name_in(other) != name)
 }
 
 // Whether this can be the parent of device `i` of `n`: none, or another.

@@ -1,24 +1,24 @@
 // The two files of a run.
 ghost use Rattle.std.specs.Prelude.{◌≡◌, IfOk, MatchResult};
-ghost use Rattle.boardfile.specs.Layout.{device_count};
+ghost use Rattle.board.specs.Checking.{file_of};
 ghost use Rattle.run.specs.Files.{Fit, RefusesFiles, BankOf, held, parts_in};
 
 use bank::bank::Bank;
 use board::board::Board;
+use board::board::checked::Checked;
 use boardbank::{BoardBank, board_bank};
 use program::fault::{ProgramFault, RunFault};
 use std::alloc::{AllocError, Global};
 
-// Tests both files, the board file first, and answers how many devices the board has. No memory is needed.
-pub(crate) fn check_files(board: &[u8], sheet: &[u8]) -> Result<usize, ProgramFault>
-    ensures { MatchResult result (λ count. Fit board.now sheet.now × (count ≡ device_count board.now)) (RefusesFiles board.now sheet.now) }
+// Tests both files, the board file first. No memory is needed.
+pub(crate) fn check_files<'a>(board: &'a [u8], sheet: &[u8]) -> Result<Checked<'a>, ProgramFault>
+    ensures { MatchResult result (λ checked. Fit board.now sheet.now × (file_of checked ≡ board.now)) (RefusesFiles board.now sheet.now) }
 {
-    let order = Board::check(board)?;
-    let count = order.devices().len();
-    if sheet.len() != 4 * count {
+    let checked = Checked::new(board)?;
+    if sheet.len() != 4 * checked.order().devices().len() {
         return Err(ProgramFault::Sheet);
     }
-    Ok(count)
+    Ok(checked)
 }
 
 // The words of a board's devices.

@@ -1,4 +1,5 @@
 // A run: from the bytes of a board file and of a fault sheet to what is told of it.
+ghost use Rattle.board.specs.Checking.{file_of};
 ghost use Rattle.run.specs.Files.{Fit, Starts};
 ghost use Rattle.run.specs.Running.{ReportsOver, Runs, ExactRun};
 
@@ -6,6 +7,7 @@ use crate::files::{bank_of, check_files};
 use attempt::attempt::Attempt;
 use bank::bank::Bank;
 use board::board::Board;
+use board::board::checked::Checked;
 use lines::report::Report;
 use program::fault::RunFault;
 use std::alloc::Global;
@@ -21,11 +23,11 @@ fn report_over<B: Bank + Drop>(heap: Global, board: Board, bank: B) -> Result<Re
 
 // A run of files that are not refused.
 #[tactic(auto, using(crate::proofs::Attempting::has_run))]
-pub(crate) fn run_right(heap: Global, board: &[u8], sheet: &[u8]) -> Result<Report, RunFault>
-    requires { Fit board.now sheet.now }
-    ensures { Runs board.now sheet.now result }
+pub(crate) fn run_right(heap: Global, board: &Checked<'_>, sheet: &[u8]) -> Result<Report, RunFault>
+    requires { Fit (file_of board.now) sheet.now }
+    ensures { Runs (file_of board.now) sheet.now result }
 {
-    let board = Board::read(heap, board)?;
+    let board = board.board(heap)?;
     let bank = bank_of(heap, &board, sheet)?;
     report_over(heap, board, bank)
 }
@@ -33,8 +35,8 @@ pub(crate) fn run_right(heap: Global, board: &[u8], sheet: &[u8]) -> Result<Repo
 fn run_files(heap: Global, board: &[u8], sheet: &[u8]) -> Result<Report, RunFault>
     ensures { Runs board.now sheet.now result }
 {
-    check_files(board, sheet)?;
-    run_right(heap, board, sheet)
+    let board = check_files(board, sheet)?;
+    run_right(heap, &board, sheet)
 }
 
 // Runs the board of a board file with the cells of a fault sheet: an engine is opened, steps until it is asleep or landed, and is

@@ -1,10 +1,12 @@
 // What-ifs: how a run would end with another byte in one cell of its sheet.
 ghost use Rattle.std.specs.Prelude.{◌≡◌, ◌<◌, length, set, slice_index_or, MatchResult};
+ghost use Rattle.board.specs.Checking.{file_of};
 ghost use Rattle.run.specs.Asking.{Asks, CanAsk, ExactAnswer, Fits, OutcomeOf, RefusesAsking, cell};
 ghost use Rattle.run.specs.Files.{Fit};
 
 use crate::files::check_files;
 use crate::running::run_right;
+use board::board::checked::Checked;
 use history::outcome::Outcome;
 use program::fault::{ProgramFault, RunFault};
 use std::alloc::Global;
@@ -48,24 +50,30 @@ impl Drop for CellGuard<'_> {
     }
 }
 
-// The place of the cell that is asked for.
-fn cell_of(board: &[u8], sheet: &[u8], device: u8, level: u8) -> Result<usize, ProgramFault>
-    ensures { MatchResult result (λ place. CanAsk board.now sheet.now device level × (place ≡ cell device level)) (RefusesAsking board.now sheet.now device level) }
+// The board file, and the place of the cell that is asked for.
+fn cell_of<'a>(
+    board: &'a [u8],
+    sheet: &[u8],
+    device: u8,
+    level: u8,
+) -> Result<(Checked<'a>, usize), ProgramFault>
+    ensures { MatchResult result (λ found. CanAsk board.now sheet.now device level × (file_of found.0 ≡ board.now) × (found.1 ≡ cell device level)) (RefusesAsking board.now sheet.now device level) }
 {
-    let count = check_files(board, sheet)?;
-    if usize::from(device) >= count {
+    let board = check_files(board, sheet)?;
+    if usize::from(device) >= board.order().devices().len() {
         return Err(ProgramFault::NoDevice { device });
     }
     if !(1..=4).contains(&level) {
         return Err(ProgramFault::NoLevel);
     }
-    Ok(4 * usize::from(device) + usize::from(level) - 1)
+    let place = 4 * usize::from(device) + usize::from(level) - 1;
+    Ok((board, place))
 }
 
 // The outcome of a run of files that are not refused.
-fn outcome_of(heap: Global, board: &[u8], sheet: &[u8]) -> Result<Outcome, RunFault>
-    requires { Fit board.now sheet.now }
-    ensures { OutcomeOf board.now sheet.now result }
+fn outcome_of(heap: Global, board: &Checked<'_>, sheet: &[u8]) -> Result<Outcome, RunFault>
+    requires { Fit (file_of board.now) sheet.now }
+    ensures { OutcomeOf (file_of board.now) sheet.now result }
 {
     let report = run_right(heap, board, sheet)?;
     Ok(report.outcome())
@@ -84,9 +92,9 @@ fn ask(
     ensures same { sheet.new ≡ sheet.old }
     ensures answer { Asks board.now sheet.old device level byte result }
 {
-    let place = cell_of(board, sheet, device, level)?;
+    let (board, place) = cell_of(board, sheet, device, level)?;
     let guard = CellGuard::new(sheet, place, byte);
-    outcome_of(heap, board, guard.sheet())
+    outcome_of(heap, &board, guard.sheet())
 }
 
 // How a run would end with this byte in the cell of a device for a level. On every way out the sheet is as it was. Refused where the

@@ -2,6 +2,7 @@
 ghost use Rattle.board.specs.Checking.{Checks, Exactly};
 
 use crate::board::Board;
+use crate::board::checked::Checked;
 use crate::records::Records;
 use boardfile::fault::BoardFault;
 use order::ordering::Order;
@@ -19,7 +20,7 @@ impl Records<'_> {
 fn order_in(bytes: &[u8]) -> Result<Order, BoardFault>
     ensures { Checks bytes.now result }
 {
-    Records::read(bytes)?.order()
+    Ok(*Checked::new(bytes)?.order())
 }
 
 impl Board {

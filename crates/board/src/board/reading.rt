@@ -6,6 +6,7 @@ ghost use Rattle.boardfile.specs.Laws.{Laws};
 ghost use Rattle.board.specs.Reading.{Reads, Exact};
 
 use crate::board::Board;
+use crate::board::checked::Checked;
 use crate::parts::{device_in, link_in};
 use crate::records::Records;
 use boardfile::device::{Device, Kinds, Link};
@@ -16,7 +17,7 @@ use std::alloc::{AllocError, Global};
 
 impl Records<'_> {
     // The devices that the records describe.
-    fn devices(&self, heap: Global) -> Result<Vec<Device>, AllocError>
+    pub(crate) fn devices(&self, heap: Global) -> Result<Vec<Device>, AllocError>
         ensures { IfOk result (λ v. (v.items ≡ devices_of self.now.frame.file.now) × (vec_len v ≡ device_count self.now.frame.file.now) × AsciiNames v.items × TellApart v.items) }
     {
         let records = self.frame.devices.records();
@@ -24,24 +25,11 @@ impl Records<'_> {
     }
 
     // The links that the records describe.
-    fn links(&self, heap: Global) -> Result<Vec<Link>, AllocError>
+    pub(crate) fn links(&self, heap: Global) -> Result<Vec<Link>, AllocError>
         ensures { IfOk result (λ v. v.items ≡ links_of self.now.frame.file.now) }
     {
         let records = self.frame.links.records();
         records.iter().filter_map(link_in).collect(heap)
-    }
-
-    // The board that the records describe, unless superiors run in a circle.
-    fn board(&self, heap: Global) -> Result<Board, ReadFault>
-        ensures { Reads self.now.frame.file.now result }
-    {
-        let order = self.order()?;
-        Ok(Board {
-            devices: self.devices(heap)?,
-            links: self.links(heap)?,
-            kinds: self.frame.kinds,
-            order,
-        })
     }
 }
 
@@ -59,7 +47,7 @@ impl Board {
     fn load(heap: Global, bytes: &[u8]) -> Result<Board, ReadFault>
         ensures { Reads bytes.now result }
     {
-        Records::read(bytes)?.board(heap)
+        Ok(Checked::new(bytes)?.board(heap)?)
     }
 
     // The devices by number.

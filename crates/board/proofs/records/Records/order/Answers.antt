@@ -1,22 +1,10 @@
-use Rattle.std.proofs.Common.{ℕ, List, subst}
 use Rattle.std.proofs.lemmas.Result.{err_from_is_err_and}
-use Rattle.order.specs.declared.ordering.Order.{Order}
-use Rattle.order.specs.Orders.{IsTheOrder}
-use Rattle.order.specs.Answers.{Superior, devices}
-use Rattle.order.proofs.Alike.{order_alike, circular_alike}
-use Rattle.order.proofs.Exactness.{ordered}
-use Rattle.boardfile.specs.Layout.{device_count}
+use Rattle.order.specs.Answers.{Superior}
+use Rattle.order.proofs.Alike.{circular_alike}
 use Rattle.boardfile.specs.Contents.{SuperiorIn}
-use Rattle.board.specs.Wiring.{Wired, Ordered}
+use Rattle.board.proofs.Wires.{order_in}
 use Rattle.board.proofs.Known.{framed_known, devices_known, links_known}
 use Rattle.board.proofs.records.Records.order.Goals as goal
-
--- what holds of a table of superiors holds of the bytes that it was gathered from
-order_in : (bs : List ℕ) (order : Order) → Wired bs order.superiors → Ordered bs order
-order_in bs order wired =
-    let right : IsTheOrder (device_count bs) (SuperiorIn bs) (devices order) =
-    subst (λ n. IsTheOrder n (SuperiorIn bs) (devices order)) wired.count (order_alike order.superiors.count (Superior order.superiors) (SuperiorIn bs) wired.only wired.adds (devices order) (ordered order)) in
-    record { superiors = wired; least_first = right; exists = (devices order, right.0) }
 
 pub returns : goal.returns
 returns c =
