@@ -25,11 +25,11 @@ board_kind = injector_kind greatest_errno (pair_kind register_kind (pair_kind bu
 abbrev pub board_model : Parts → (List (List ℕ) × (List (List ℕ) × List (List ℕ))) × List ℕ
 board_model parts = ((each_with_one parts.registers, (each_with_one parts.buses, each_with_one parts.quiets)), parts.cells)
 
-abbrev pub device_number : Parts → ℕ
-device_number parts = length parts.registers + (length parts.buses + length parts.quiets)
+abbrev pub total_devices : Parts → ℕ
+total_devices parts = length parts.registers + (length parts.buses + length parts.quiets)
 
 -- a bank that stands for these parts; or the fault that they are too many; or want of memory
 abbrev pub MakesBoard : {B : Type 0} → (B → (List (List ℕ) × (List (List ℕ) × List (List ℕ))) × List ℕ) → Parts → Result B MakeFault → Type 0
 MakesBoard model parts (Ok bank) = model bank ≡ board_model parts
-MakesBoard model parts (Err (Unmade fault)) = (most_devices < device_number parts) × (fault ≡ TooMany)
+MakesBoard model parts (Err (Unmade fault)) = (most_devices < total_devices parts) × (fault ≡ TooMany)
 MakesBoard model parts (Err Memory) = Unit {0}

@@ -1,7 +1,8 @@
 // The bank of a board: an injector on a pair of a register bank and a pair of a bus and a quiet bank.
 #![tactic(auto)]
 
-ghost use Rattle.boardbank.specs.Boards.{MakesBoard};
+ghost use Rattle.bank.specs.Laws.{SameKind};
+ghost use Rattle.boardbank.specs.Boards.{MakesBoard, board_kind};
 
 use bank::bank::Bank;
 use bank::fault::MakeFault;
@@ -22,7 +23,8 @@ pub fn board_bank(
     quiets: &[u32],
     cells: Vec<u8>,
 ) -> Result<BoardBank, MakeFault>
-    ensures { MakesBoard ⟦<BoardBank as Bank>⟧.model (record { registers = registers.now; buses = buses.now; quiets = quiets.now; cells = cells.items }) result }
+    ensures kind { SameKind ⟦<BoardBank as Bank>⟧.kind board_kind }
+    ensures made { MakesBoard ⟦<BoardBank as Bank>⟧.model (record { registers = registers.now; buses = buses.now; quiets = quiets.now; cells = cells.items }) result }
 {
     let others = Pair::new(bus_bank(heap, buses)?, quiet_bank(heap, quiets)?)?;
     let all = Pair::new(register_bank(heap, registers)?, others)?;

@@ -6,7 +6,7 @@ use Rattle.std.proofs.lemmas.List.Edits.{length-between}
 use Rattle.std.proofs.lemmas.List.Sums.{prefix_len-le-length}
 use Rattle.std.proofs.lemmas.Bool.{cases_lt}
 use Rattle.boardfile.specs.Layout.{device_count, device_place, name_field}
-use Rattle.boardfile.specs.Rules.{Apart, Named, Framed, RightDevices, not_zero, name_size, shortened}
+use Rattle.boardfile.specs.Rules.{Apart, IsMark, Named, Framed, RightDevices, not_zero, name_size, shortened}
 use Rattle.boardfile.specs.declared.device.Device.{Device}
 use Rattle.boardfile.specs.Contents.{text, blank, device_of, devices_of, AsciiNames, TellApart}
 use Rattle.boardfile.specs.Laws.{ShareNone, Laws}
@@ -71,15 +71,15 @@ ascii_names bs right devices is i k = rw is (go (cases_lt i (device_count bs)))
 
 -- ---- names tell devices apart
 
--- a name has letters and digits alone, which come after space and dash
-plain_text : (field : List ℕ) → Named field → (mark : ℕ) → 0 < mark → mark < 48 → (k : ℕ) → get_or (shortened field) k 0 ≢ mark
-plain_text field named mark low high k = elim (cases_lt k (name_size field)) [
-  | inl l ↦ rw (get_or-take (name_size field) field k 0 l) (λ e. elim (named.plain k l) [ inl letter ↦ omega (arith, letter.0, letter.1, e) | inr digit ↦ omega (arith, digit.0, digit.1, e) ])
-  | inr l ↦ rw (get_or_past (shortened field) k 0 (omega (arith, length-take-le (name_size field) field (size_bound field)))) (λ e. absurd (omega (arith, e)))
+-- a name has letters and digits alone
+plain_text : (field : List ℕ) → Named field → (mark : ℕ) → IsMark mark → (k : ℕ) → get_or (shortened field) k 0 ≢ mark
+plain_text field named mark other k = elim (cases_lt k (name_size field)) [
+  | inl l ↦ rw (get_or-take (name_size field) field k 0 l) (λ e. elim (named.plain k l) [ inl letter ↦ other.no_letter (rw e at letter) | inr digit ↦ other.no_digit (rw e at digit) ])
+  | inr l ↦ rw (get_or_past (shortened field) k 0 (omega (arith, length-take-le (name_size field) field (size_bound field)))) (λ e. absurd (omega (arith, other.some, e)))
 ]
 
 pub tell_apart : (bs : List ℕ) → Framed bs → RightDevices bs → (devices : List Device) → devices ≡ devices_of bs → TellApart devices
-tell_apart bs framed right devices is = rw is (record { short = short; spaceless = lacks 32 (lit< tt) (lit< tt); dashless = lacks 45 (lit< tt) (lit< tt); differ = differ })
+tell_apart bs framed right devices is = rw is (record { short = short; markless = lacks; differ = differ })
   where
     inside : (i : ℕ) → i < device_count bs → get_or (devices_of bs) i blank ≡ device_of bs i
     inside i l = get_or-map-range_with_len (device_of bs) 0 (device_count bs) i i blank l (omega arith)
@@ -90,8 +90,8 @@ tell_apart bs framed right devices is = rw is (record { short = short; spaceless
     short : (i : ℕ) → length (text (get_or (devices_of bs) i blank).name) ≤ 8
     short i = elim (cases_lt i (device_count bs)) [ inl l ↦ rw (inside i l) (sizes bs framed right i l).1 | inr l ↦ rw (past i l) (omega arith) ]
 
-    lacks : (mark : ℕ) → 0 < mark → mark < 48 → (i k : ℕ) → get_or (text (get_or (devices_of bs) i blank).name) k 0 ≢ mark
-    lacks mark low high i k = elim (cases_lt i (device_count bs)) [ inl l ↦ rw (inside i l) (plain_text (name_field bs i) (right i l).named mark low high k) | inr l ↦ rw (past i l) (λ e. absurd (omega (arith, e))) ]
+    lacks : (i k mark : ℕ) → IsMark mark → get_or (text (get_or (devices_of bs) i blank).name) k 0 ≢ mark
+    lacks i k mark other = elim (cases_lt i (device_count bs)) [ inl l ↦ rw (inside i l) (plain_text (name_field bs i) (right i l).named mark other k) | inr l ↦ rw (past i l) (λ e. absurd (omega (arith, other.some, e))) ]
 
     differ : (i j : ℕ) → i < j → j < length (devices_of bs) → text (get_or (devices_of bs) i blank).name ≢ text (get_or (devices_of bs) j blank).name
     differ i j h l =

@@ -7,7 +7,7 @@ use Rattle.boardfile.specs.declared.device.Device.{Device}
 use Rattle.boardfile.specs.declared.device.Link.{Link}
 use Rattle.boardfile.specs.declared.device.Kinds.{Kinds}
 use Rattle.boardfile.specs.Layout.{register_count, bus_count, quiet_count, device_count, link_count, name_field, parent_byte, word, consumer, supplier}
-use Rattle.boardfile.specs.Rules.{Named, shortened}
+use Rattle.boardfile.specs.Rules.{Named, IsMark, shortened}
 
 -- a name without its padding
 abbrev pub text : Name → List ℕ
@@ -30,11 +30,10 @@ AsciiNames devices = (i k : ℕ) → slice_index (slice_index_or devices i blank
 abbrev pub parent : List ℕ → ℕ → Option ℕ
 parent bs i = cond (parent_byte bs i == 255) None (Some (parent_byte bs i))
 
--- no name has more than 8 bytes, or a space or a dash in it, and no two devices have the same
+-- no name has more than 8 bytes, or a byte that is no letter and no digit, and no two devices have the same
 pub record TellApart (devices : List Device) : Type 0 where
   pub short : (i : ℕ) → length (text (slice_index_or devices i blank).name) ≤ 8
-  pub spaceless : (i k : ℕ) → slice_index (text (slice_index_or devices i blank).name) k ≢ 32
-  pub dashless : (i k : ℕ) → slice_index (text (slice_index_or devices i blank).name) k ≢ 45
+  pub markless : (i k mark : ℕ) → IsMark mark → slice_index (text (slice_index_or devices i blank).name) k ≢ mark
   pub differ : (i j : ℕ) → i < j → j < length devices → text (slice_index_or devices i blank).name ≢ text (slice_index_or devices j blank).name
 
 abbrev pub device_of : List ℕ → ℕ → Device

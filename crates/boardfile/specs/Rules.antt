@@ -42,6 +42,12 @@ Letter b = (97 ≤ b) × (b ≤ 122)
 abbrev pub Digit : ℕ → Type 0
 Digit b = (48 ≤ b) × (b ≤ 57)
 
+-- neither a letter nor a digit, nor the zero byte of the padding
+pub record IsMark (b : ℕ) : Type 0 where
+  pub some : 0 < b
+  pub no_letter : Letter b → ⊥
+  pub no_digit : Digit b → ⊥
+
 abbrev pub not_zero : ℕ → Bool
 not_zero b = not (b == 0)
 

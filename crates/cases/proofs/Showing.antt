@@ -59,7 +59,7 @@ use Rattle.bank.specs.Runs.{answers_to}
 use Rattle.bankrules.specs.Rules.{each_with_one}
 use Rattle.bankrules.specs.Register.{register_kind}
 use Rattle.cases.specs.Injected.{BoardAnswers}
-use Rattle.boardbank.specs.Boards.{Parts, board_kind, board_model, device_number}
+use Rattle.boardbank.specs.Boards.{Parts, board_kind, board_model, total_devices}
 use Rattle.cases.specs.Registers.{RegistersAnswer}
 use Rattle.cases.proofs.Outcome.{superior, superior_tests, outcome, IsRight, outcome_right}
 
@@ -157,9 +157,9 @@ abbrev pub Passes : Case → Type 0
 Passes (reads bytes expected shown) = (outcome bytes ≡ Ok expected.order) × (said bytes expected.order ≡ expected) × (printed bytes expected.order ≡ shown)
 Passes (refuses bytes fault shown) = (outcome bytes ≡ Err fault) × (bytes_printed (Err (IsRefused (told fault))) ≡ shown)
 Passes (registers words calls answers) = (length words ≤ most_devices) × (answers_to register_kind (each_with_one words) calls ≡ answers)
-Passes (whole parts calls answers) = (device_number parts ≤ most_devices) × (answers_to board_kind (board_model parts) calls ≡ answers)
+Passes (whole parts calls answers) = (total_devices parts ≤ most_devices) × (answers_to board_kind (board_model parts) calls ≡ answers)
 Passes (plays parts order calls answers journal stage) =
-    (device_number parts ≤ most_devices)
+    (total_devices parts ≤ most_devices)
     × (length (board_kind.devices (board_model parts)) ≡ length order)
     × (all_below (length order) (λ d. level (board_kind.devices (board_model parts)) d == 0) ≡ true)
     × (all_said board_kind order (just_made (board_model parts)) calls ≡ answers)
@@ -195,7 +195,7 @@ registers_hold words calls answers few e (Ok given) is = is ∙ e
 registers_hold words calls answers few e (Err (IsUnmade f)) (many, is) = absurd (omega arith)
 registers_hold words calls answers few e (Err NoRoom) few' = tt
 
-whole_holds : (parts : Parts) (calls : List Call) (answers : List (Result Reply BankFault)) → device_number parts ≤ most_devices → answers_to board_kind (board_model parts) calls ≡ answers
+whole_holds : (parts : Parts) (calls : List Call) (answers : List (Result Reply BankFault)) → total_devices parts ≤ most_devices → answers_to board_kind (board_model parts) calls ≡ answers
     → (r : Result (Vec (Result Reply BankFault) Global) MakeFault) → BoardAnswers parts calls r → HasAnswered answers r
 whole_holds parts calls answers few e (Ok given) is = is ∙ e
 whole_holds parts calls answers few e (Err (IsUnmade f)) (many, is) = absurd (omega arith)

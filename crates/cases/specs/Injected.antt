@@ -9,9 +9,9 @@ use Rattle.bank.specs.declared.fault.MakeFault.{MakeFault}
 use Rattle.bank.specs.declared.fault.MakeFault.TheVariants.{Bank as Unmade, Memory}
 use Rattle.bank.specs.Meaning.{most_devices}
 use Rattle.bank.specs.Runs.{answers_to}
-use Rattle.boardbank.specs.Boards.{Parts, board_kind, board_model, device_number}
+use Rattle.boardbank.specs.Boards.{Parts, board_kind, board_model, total_devices}
 
 abbrev pub BoardAnswers : Parts → List Call → Result (Vec (Result Reply BankFault) Global) MakeFault → Type 0
 BoardAnswers parts calls (Ok answers) = vec_items answers ≡ answers_to board_kind (board_model parts) calls
-BoardAnswers parts calls (Err (Unmade fault)) = (most_devices < device_number parts) × (fault ≡ TooMany)
+BoardAnswers parts calls (Err (Unmade fault)) = (most_devices < total_devices parts) × (fault ≡ TooMany)
 BoardAnswers parts calls (Err Memory) = Unit {0}

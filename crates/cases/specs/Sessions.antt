@@ -13,7 +13,7 @@ use Rattle.history.specs.Rules.{all_said, after_all}
 use Rattle.attempt.specs.Runs.{just_made}
 use Rattle.engine.specs.Making.{Unready}
 use Rattle.engine.specs.Tickets.{Owes}
-use Rattle.boardbank.specs.Boards.{Parts, board_kind, board_model, device_number}
+use Rattle.boardbank.specs.Boards.{Parts, board_kind, board_model, total_devices}
 use Rattle.cases.specs.declared.sessions.Session.{Session}
 use Rattle.cases.specs.declared.sessions.SessionFault.{SessionFault}
 use Rattle.cases.specs.declared.sessions.SessionFault.TheVariants.{Bank, Engine, Memory}
@@ -32,7 +32,7 @@ RunAnswers kind m order calls (Err Memory) = Unit {0}
 -- the same over the bank of a board that is made of these parts
 abbrev pub SessionAnswers : Parts → List ℕ → List Call → Result Session SessionFault → Type 0
 SessionAnswers parts order calls (Ok session) = RunAnswers board_kind (board_model parts) order calls (Ok session)
-SessionAnswers parts order calls (Err (Bank fault)) = (most_devices < device_number parts) × (fault ≡ TooMany)
+SessionAnswers parts order calls (Err (Bank fault)) = (most_devices < total_devices parts) × (fault ≡ TooMany)
 SessionAnswers parts order calls (Err (Engine fault)) = Unready order (board_kind.devices (board_model parts)) fault
 SessionAnswers parts order calls (Err Memory) = Unit {0}
 

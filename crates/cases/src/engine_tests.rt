@@ -180,7 +180,7 @@ fn a_refused_engine_hands_its_bank_back(rt: HostRuntime) -> Result<(), Fail> {
     assert!(rt;
         fault
             == MakeFault::Engine {
-                fault: EngineFault::NotAwake
+                fault: EngineFault::NotRunning
             }
     );
     assert!(rt; bank.look(1) == Ok((1, 8, 0)));

@@ -6,7 +6,7 @@ use Rattle.bank.specs.Meaning.{Device, level}
 use Rattle.history.specs.declared.entry.Entry.{Entry}
 use Rattle.history.specs.Schedule.{full}
 use Rattle.history.specs.declared.fault.EngineFault.{EngineFault}
-use Rattle.history.specs.declared.fault.EngineFault.TheVariants.{CountsDiffer, NotAwake}
+use Rattle.history.specs.declared.fault.EngineFault.TheVariants.{CountsDiffer, NotRunning}
 use Rattle.history.specs.declared.standing.Standing.TheVariants.{Awake}
 use Rattle.order.specs.declared.ordering.Order.{Order}
 use Rattle.order.specs.Answers.{devices}
@@ -24,7 +24,7 @@ pub record IsReady (order : List ℕ) (now : List Device) : Type 0 where
 abbrev pub Unready : List ℕ → List Device → EngineFault → Type 0
 Unready order now fault =
     ((length now ≢ length order) × (fault ≡ CountsDiffer))
-    ⊎ ((length now ≡ length order) × ((d : ℕ) × (d < length order) × (0 < level now d)) × (fault ≡ NotAwake))
+    ⊎ ((length now ≡ length order) × ((d : ℕ) × (d < length order) × (0 < level now d)) × (fault ≡ NotRunning))
 
 -- whether they are
 abbrev pub Readies : List ℕ → List Device → Result (Unit {0}) EngineFault → Type 0

@@ -20,7 +20,7 @@ use Rattle.history.specs.Schedule.{full, level_sum}
 use Rattle.history.specs.Attempts.{History, at, goes_on, under_way, Descent, descent, is_step, or_else, if_none, next_device}
 use Rattle.history.specs.Attempts.{turning, alarm_of, by_fault, cut_short, slept_with, outcome, rising, stage_of}
 use Rattle.history.specs.Rules.{State, shown, said, next, alarm_answer, answer_to}
-use Rattle.history.specs.Law.{is_lowering, told, lowerings, LedTo, FitsCall}
+use Rattle.history.specs.Law.{is_lowering, answer_after, lowerings, LedTo, FitsCall}
 use Rattle.history.proofs.Refusals.{by_device}
 use Rattle.history.proofs.Unwinding.{descent_more}
 use Rattle.history.proofs.Standings.{stands_in, slept_now}
@@ -170,7 +170,7 @@ module _ {M : Type 0} {limit : ℕ} (kind : Kind M) (laws : Laws limit kind) (or
     lasts : under_way h ≡ true → lowerings order longer ≡ (outcome_values (outcome order (descent order longer) later)).taken
     lasts w =
         let t = descent order h in
-        let a = told order h call now in
+        let a = answer_after order h call now in
         let same : level_sum later ≡ sum_after a (level_sum now) =
         sum ∙ ap (λ (x : Result Answer EngineFault). sum_after x (level_sum now)) (told_so kind laws order permutes some h s f call fits) in
         cond-true (under_way h) _ _ w

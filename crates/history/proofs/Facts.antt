@@ -18,7 +18,7 @@ use Rattle.history.specs.declared.standing.Stage.TheVariants as stage
 use Rattle.history.specs.Schedule.{device_of, full, level_sum}
 use Rattle.history.specs.Attempts.{History, at, goes_on, under_way, next_device, standing, stage_of}
 use Rattle.history.specs.Rules.{State, shown, said, next, answer_to, recorded, model_after, all_raised}
-use Rattle.history.specs.Law.{told, journal, lowerings, is_lowering, Made, LedTo, FitsCall}
+use Rattle.history.specs.Law.{answer_after, journal, lowerings, is_lowering, Made, LedTo, FitsCall}
 use Rattle.history.specs.Keeping.{Scheduled, InRange}
 use Rattle.history.proofs.Schedules.{scheduled_running}
 use Rattle.history.proofs.Unwinding.{Held, Unwinds, unwinds_open, unwinds_same, unwinds_lower, unwinds_raise, lasted}
@@ -85,7 +85,7 @@ module _ {M : Type 0} {limit : ℕ} (kind : Kind M) (laws : Laws limit kind) (or
       abbrev later : List Device
       later = shown kind order (next kind order s call)
 
-      pub told_so : answer ≡ told order h call now
+      pub told_so : answer ≡ answer_after order h call now
       told_so = ap (λ (st : Standing). answer_to order st call now) f.stands
 
       -- what is known of the bank after the call

@@ -22,7 +22,7 @@ use Rattle.history.specs.declared.standing.Standing.TheVariants.{Awake, GoingDow
 use Rattle.history.specs.Schedule.{phase, device_of, level_sum}
 use Rattle.history.specs.Attempts.{History, at, goes_on, under_way, next_device, stage_of}
 use Rattle.history.specs.Rules.{State, shown, said, next, alarm_answer, answer_to, put_answer, recorded, entry, entries_up}
-use Rattle.history.specs.Law.{told, lowerings, is_lowering, LedTo, FitsCall}
+use Rattle.history.specs.Law.{answer_after, lowerings, is_lowering, LedTo, FitsCall}
 use Rattle.history.specs.Journals.{if_taken, way}
 use Rattle.history.proofs.Refusals.{by_device}
 use Rattle.history.proofs.Transitions.{sum_after}
@@ -226,7 +226,7 @@ module _ {M : Type 0} {limit : ℕ} (kind : Kind M) (laws : Laws limit kind) (or
         sums ∙ ap (λ (a : Result Answer EngineFault). sum_after a (level_sum now)) e ∙ none_lowered kind laws order permutes some h s f st in
         let empty : Mirrors order [] 0 0 = record { down = refl; up = refl } in
         mirrors_at order (recorded order answer now s.journal) [] _ 0 _ 0 (ap (λ (a : Result Answer EngineFault). recorded order a now s.journal) e) z
-        (cond-false (under_way h) (is_lowering (told order h call now) + lowerings order h) 0 n) empty
+        (cond-false (under_way h) (is_lowering (answer_after order h call now) + lowerings order h) 0 n) empty
       where
         just_opened : (x : Call) → under_way h ≡ false → goes_on x (under_way h) ≡ true → x ≡ Open
         just_opened Open n g = refl

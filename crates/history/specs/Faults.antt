@@ -2,7 +2,7 @@
 use Rattle.std.specs.Prelude.{ℕ}
 use Rattle.bank.specs.Faults as bank
 use Rattle.history.specs.declared.fault.EngineFault.{EngineFault}
-use Rattle.history.specs.declared.fault.EngineFault.TheVariants.{Bank, CountsDiffer, NotAwake, InAttempt, NothingOpen, AtRest, NoEntry}
+use Rattle.history.specs.declared.fault.EngineFault.TheVariants.{Bank, CountsDiffer, NotRunning, InAttempt, NothingOpen, AtRest, NoEntry}
 use Rattle.refusal.specs.declared.layer.Layer.TheVariants.{Engine}
 use Rattle.refusal.specs.declared.refusal.Refusal.{Refusal}
 
@@ -14,7 +14,7 @@ own number = record { layer = Engine; number = number; place = 0 }
 abbrev pub told : EngineFault → Refusal
 told (Bank fault lowered) = bank.told fault
 told CountsDiffer = own 20
-told NotAwake = own 21
+told NotRunning = own 21
 told InAttempt = own 22
 told NothingOpen = own 23
 told AtRest = own 24

@@ -15,7 +15,7 @@ use Rattle.history.specs.Schedule.{full, level_sum}
 use Rattle.history.specs.Attempts.{History, at, under_way, opening, descent, next_device, outcome, standing}
 use Rattle.history.specs.Rules.{State, shown, next}
 pub use Rattle.history.specs.Sentences.{if_deep, first_with, HoldsFirstWords, Depths, OneLower, OneHigher}
-pub use Rattle.history.specs.Telling.{is_lowering, told, journal, lowerings, IsAt, Stopped, NoSuch, Refuses}
+pub use Rattle.history.specs.Telling.{is_lowering, answer_after, journal, lowerings, IsAt, Stopped, NoSuch, Refuses}
 use Rattle.history.specs.Journals.{Notes}
 use Rattle.history.specs.Endings.{Endings}
 
@@ -50,7 +50,7 @@ module _ {M : Type 0} (kind : Kind M) (superior : ℕ → ℕ → Type 0) (order
   -- After the history h, the call is answered so and takes the engine from `s` to `later`.
   pub record Lawful (h : History) (call : Call) (s : State M) (answer : Result Answer EngineFault) (later : State M) : Type 0 where
     -- it answers what the history tells, and is refused exactly where the rules refuse it; a refusal alters nothing
-    pub answers : answer ≡ told order h call (shown kind order s)
+    pub answers : answer ≡ answer_after order h call (shown kind order s)
     pub refuses : (fault : EngineFault) → (answer ≡ Err fault) ↔ Refuses order h (shown kind order s) call fault
     pub unaltered : (fault : EngineFault) → answer ≡ Err fault → later ≡ s
     -- a step going down lowers exactly one device, by one level, unless an alarm is kept or the next device has a hindrance

@@ -22,18 +22,18 @@ is_lowering answer = 0
 
 module _ (order : List ℕ) where
   -- what a call answers after this history
-  abbrev pub told : History → Call → List Device → Result Answer EngineFault
-  told h call now = answer_to order (standing order h now) call now
+  abbrev pub answer_after : History → Call → List Device → Result Answer EngineFault
+  answer_after h call now = answer_to order (standing order h now) call now
 
   -- the journal
   abbrev pub journal : History → List Entry
   journal [] = []
-  journal (m ∷ h) = recorded order (told h m.call m.before) m.before (journal h)
+  journal (m ∷ h) = recorded order (answer_after h m.call m.before) m.before (journal h)
 
   -- how many calls of the attempt under way lowered a device
   abbrev pub lowerings : History → ℕ
   lowerings [] = 0
-  lowerings (m ∷ h) = if under_way h then is_lowering (told h m.call m.before) + lowerings h else 0
+  lowerings (m ∷ h) = if under_way h then is_lowering (answer_after h m.call m.before) + lowerings h else 0
 
   -- the engine is in this stage after this history
   abbrev pub IsAt : Stage → History → List Device → Type 0

@@ -14,7 +14,7 @@ pub enum EngineFault {
     // The order and the bank differ in their number of devices.
     CountsDiffer,
     // A device is not at level 0.
-    NotAwake,
+    NotRunning,
     // An attempt is open.
     InAttempt,
     // No attempt is open.
@@ -52,7 +52,7 @@ impl From<EngineFault> for Refusal {
         let number = match fault {
             EngineFault::Bank { fault, lowered: _ } => return Refusal::from(fault),
             EngineFault::CountsDiffer => 20,
-            EngineFault::NotAwake => 21,
+            EngineFault::NotRunning => 21,
             EngineFault::InAttempt => 22,
             EngineFault::NothingOpen => 23,
             EngineFault::AtRest => 24,

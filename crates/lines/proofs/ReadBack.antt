@@ -1,11 +1,14 @@
 -- Lines that are the same are lines of the same.
-use Rattle.std.proofs.Common.{◌≡◌, ◌≢◌, ℕ, ◌<◌, ◌≤◌, ◌^◌, pos, negsuc, inl, inr, cond, eqb, Some, None, Option, List, length, get_or, codes, ℤ, unsigned_abs, decimal, refl, sym, ap, ◌∙◌, arith}
+use Rattle.std.proofs.Common.{◌≡◌, ◌≢◌, ℕ, ◌<◌, ◌≤◌, ◌^◌, pos, negsuc, inl, inr, cond, eqb, Some, None, Option, List, [], ◌∷◌, ◌++◌, length, get_or, codes, ℤ, unsigned_abs, decimal, refl, sym, ap, ◌∙◌, arith}
 use Rattle.std.specs.Int.Signed.{mag}
 use Rattle.std.proofs.lemmas.Bool.{cases_order}
 use Rattle.std.proofs.lemmas.Fmt.{decimal_injective, signed_decimal_injective}
 use Rattle.attempt.specs.Keeping.{IsKnown, device_in}
 use Rattle.boardfile.specs.declared.device.Device.{Device}
 use Rattle.boardfile.specs.Contents.{TellApart}
+use Rattle.boardfile.specs.Rules.{IsMark}
+use Rattle.refusal.specs.Lines.{line as refusal_line}
+use Rattle.refusal.specs.declared.refusal.Refusal.{Refusal}
 use Rattle.history.specs.declared.entry.Direction.{Direction}
 use Rattle.history.specs.declared.entry.Direction.TheVariants.{Down, Up}
 use Rattle.history.specs.declared.entry.Entry.{Entry}
@@ -116,6 +119,18 @@ mag_room (negsuc n) least = omega arith
 
 -- ---- names
 
+space_is_mark : IsMark 32
+space_is_mark = record { some = omega arith; no_letter = λ l. omega (arith, l.0); no_digit = λ d. omega (arith, d.0) }
+
+exclamation_is_mark : IsMark 33
+exclamation_is_mark = record { some = omega arith; no_letter = λ l. omega (arith, l.0); no_digit = λ d. omega (arith, d.0) }
+
+dash_is_mark : IsMark 45
+dash_is_mark = record { some = omega arith; no_letter = λ l. omega (arith, l.0); no_digit = λ d. omega (arith, d.0) }
+
+equals_is_mark : IsMark 61
+equals_is_mark = record { some = omega arith; no_letter = λ l. omega (arith, l.0); no_digit = λ d. omega (arith, d.1) }
+
 module _ (devices : List Device) (told : TellApart devices) where
   same_device : (d e : ℕ) → d < length devices → e < length devices → name_of devices d ≡ name_of devices e → d ≡ e
   same_device d e p q is = elim (cases_order d e) [
@@ -125,7 +140,7 @@ module _ (devices : List Device) (told : TellApart devices) where
   ]
 
   Plain-device : (d : ℕ) → Plain (name_of devices d)
-  Plain-device d = record { plain = told.spaceless d }
+  Plain-device d = record { plain = λ k. told.markless d k 32 space_is_mark }
 
   Plain-device_or_none : (device : Option ℕ) → Plain (name_or_none devices device)
   Plain-device_or_none None = Plain-written _ refl
@@ -136,8 +151,8 @@ module _ (devices : List Device) (told : TellApart devices) where
 
   same_device_or_none : (d e : Option ℕ) → Among d → Among e → name_or_none devices d ≡ name_or_none devices e → d ≡ e
   same_device_or_none None None p q is = refl
-  same_device_or_none None (Some e) p q is = absurd (told.dashless e 0 (sym (ap (λ bytes. get_or bytes 0 0) is)))
-  same_device_or_none (Some d) None p q is = absurd (told.dashless d 0 (ap (λ bytes. get_or bytes 0 0) is))
+  same_device_or_none None (Some e) p q is = absurd (told.markless e 0 45 dash_is_mark (sym (ap (λ bytes. get_or bytes 0 0) is)))
+  same_device_or_none (Some d) None p q is = absurd (told.markless d 0 45 dash_is_mark (ap (λ bytes. get_or bytes 0 0) is))
   same_device_or_none (Some d) (Some e) p q is = ap Some (same_device d e (p d refl) (q e refl) is)
 
   -- ---- entries
@@ -164,5 +179,32 @@ module _ (devices : List Device) (told : TellApart devices) where
       same_values o p kind.0 (decimal_injective _ _ (small _ known.errno) (small _ well.errno) errno.0)
       (same_device_or_none (device_in o) (device_in p) known.device well.device name.0) phase.0 (decimal_injective _ _ (small _ known.taken) (small _ well.taken) phase.1)
 
+  -- ---- entries, outcomes and refusals
+
+  -- a line begins with its first part, or with the space behind it
+  other_start : (name rest : List ℕ) (mark : ℕ) → 32 ≢ mark → get_or name 0 0 ≢ mark → get_or (name ++ (32 ∷ rest)) 0 0 ≢ mark
+  other_start [] rest mark space first = space
+  other_start (x ∷ xs) rest mark space first = first
+
+  entry_or_outcome : (e : Entry) (o : Outcome) → entry_line devices e ≢ outcome_line devices o
+  entry_or_outcome e o is =
+      other_start (name_of devices e.device) _ 61 (λ e. absurd (omega (arith, e))) (told.markless e.device 0 61 equals_is_mark) (ap (λ bytes. get_or bytes 0 0) is)
+
+  entry_or_refusal : (e : Entry) (r : Refusal) → entry_line devices e ≢ refusal_line r
+  entry_or_refusal e r is =
+      other_start (name_of devices e.device) _ 33 (λ e. absurd (omega (arith, e))) (told.markless e.device 0 33 exclamation_is_mark) (ap (λ bytes. get_or bytes 0 0) is)
+
+  outcome_or_refusal : (o : Outcome) (r : Refusal) → outcome_line devices o ≢ refusal_line r
+  outcome_or_refusal o r is = let differ : 61 ≡ 33 = ap (λ bytes. get_or bytes 0 0) is in absurd (omega (arith, differ))
+
 pub read_back : (report : Report) → ReadBack (board_devices report)
-read_back report = record { entries = same_entry (board_devices report) report.board.told_apart; outcomes = same_outcome (board_devices report) report.board.told_apart }
+read_back report =
+    let devices = board_devices report in
+    let told = report.board.told_apart in
+    record {
+      entries = same_entry devices told;
+      outcomes = same_outcome devices told;
+      entry_or_outcome = entry_or_outcome devices told;
+      entry_or_refusal = entry_or_refusal devices told;
+      outcome_or_refusal = outcome_or_refusal devices told;
+    }

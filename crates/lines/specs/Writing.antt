@@ -1,5 +1,5 @@
 -- What the writing of a line answers, and what it leaves in the buffer.
-use Rattle.std.specs.Prelude.{◌≡◌, ℕ, ◌<◌, ◌≤◌, ◌^◌, List, length, unsigned_abs, Ok, Err, Result, slice_index_or, vec_items}
+use Rattle.std.specs.Prelude.{◌≡◌, ◌≢◌, ℕ, ◌<◌, ◌≤◌, ◌^◌, List, length, unsigned_abs, Ok, Err, Result, slice_index_or, vec_items}
 use Rattle.attempt.specs.Keeping.{IsKnown, no_entry}
 use Rattle.boardfile.specs.declared.device.Device.{Device}
 use Rattle.history.specs.declared.entry.Entry.{Entry}
@@ -9,6 +9,8 @@ use Rattle.lines.specs.declared.report.Report.{Report}
 use Rattle.lines.specs.Fields.{over}
 use Rattle.lines.specs.Lines.{line_room, entry_line, outcome_line}
 use Rattle.program.specs.declared.fault.ProgramFault.{ProgramFault}
+use Rattle.refusal.specs.Lines.{line as refusal_line}
+use Rattle.refusal.specs.declared.refusal.Refusal.{Refusal}
 use Rattle.program.specs.declared.fault.ProgramFault.TheVariants.{Board, Sheet, Buffer, NoDevice, NoLevel, Engine}
 
 -- the line stands at the front of the buffer, and its length is answered; what stands behind it stays
@@ -62,7 +64,11 @@ pub record IsEntry (n : ℕ) (entry : Entry) : Type 0 where
   pub device : entry.device < n
   pub code : unsigned_abs entry.code ≤ 2 ^ 15
 
--- of the entries that a board of these devices can have, no two have the same line; and of the outcomes
+-- Of the entries that a board of these devices can have, no two have the same line, nor have two of the outcomes; and no line of an
+-- entry, of an outcome and of a refusal is one of another of these three.
 pub record ReadBack (devices : List Device) : Type 0 where
   pub entries : (e f : Entry) → IsEntry (length devices) e → IsEntry (length devices) f → entry_line devices e ≡ entry_line devices f → e ≡ f
   pub outcomes : (o p : Outcome) → IsKnown (length devices) o → IsKnown (length devices) p → outcome_line devices o ≡ outcome_line devices p → o ≡ p
+  pub entry_or_outcome : (e : Entry) (o : Outcome) → entry_line devices e ≢ outcome_line devices o
+  pub entry_or_refusal : (e : Entry) (r : Refusal) → entry_line devices e ≢ refusal_line r
+  pub outcome_or_refusal : (o : Outcome) (r : Refusal) → outcome_line devices o ≢ refusal_line r

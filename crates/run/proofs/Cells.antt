@@ -2,7 +2,7 @@
 use Rattle.std.proofs.Common.{◌≡◌, ℕ, ◌+◌, ◌-◌, ◌*◌, ◌<◌, ◌≤◌, List, length, get_or, set, refl, inl, inr, ◌∙◌, arith}
 use Rattle.std.proofs.lemmas.Bool.{cases_lt, lt-ltb, le-ltb}
 use Rattle.bank.specs.Meaning.{deepest}
-use Rattle.run.specs.Asking.{Fits, cell}
+use Rattle.run.specs.Asking.{WritesRightCell, cell}
 use Rattle.std.proofs.lemmas.List.{set-set, set-get_or, get_or-set_same, get_or-set_other}
 
 pub restored : (cells : List ℕ) (place byte : ℕ) → set (set cells place byte) place (get_or cells place 0) ≡ cells
@@ -14,7 +14,7 @@ other_place device level d l least most low other e =
     let same : d ≡ device = omega (arith, e, least, most, low) in
     other (same, omega (arith, e, same, least))
 
-pub fits : (bs sheet : List ℕ) (device level byte : ℕ) → Fits bs sheet device level byte
+pub fits : (bs sheet : List ℕ) (device level byte : ℕ) → WritesRightCell bs sheet device level byte
 fits bs sheet device level byte can =
     let place = cell device level in
     let at : 4 * device + (level - 1) ≡ place = omega (arith, can.leads.least) in

@@ -39,8 +39,8 @@ module _ (bs sheet : List ℕ) (device level : ℕ) where
     pub leads : IsLevel level
 
   -- the cell that is written is that of the device for the level
-  abbrev pub Fits : ℕ → Type 0
-  Fits byte = CanAsk → WritesCell sheet device level byte
+  abbrev pub WritesRightCell : ℕ → Type 0
+  WritesRightCell byte = CanAsk → WritesCell sheet device level byte
 
   -- refused so: the files are tested first, then the device, then the level
   abbrev pub RefusesAsking : ProgramFault → Type 0

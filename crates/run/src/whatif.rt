@@ -1,7 +1,7 @@
 // What-ifs: how a run would end with another byte in one cell of its sheet.
 ghost use Rattle.std.specs.Prelude.{◌≡◌, ◌<◌, length, set, slice_index_or, MatchResult};
 ghost use Rattle.board.specs.Checking.{file_of};
-ghost use Rattle.run.specs.Asking.{Asks, CanAsk, ExactAnswer, Fits, OutcomeOf, RefusesAsking, cell};
+ghost use Rattle.run.specs.Asking.{Asks, CanAsk, ExactAnswer, WritesRightCell, OutcomeOf, RefusesAsking, cell};
 ghost use Rattle.run.specs.Files.{Fit};
 
 use crate::files::check_files;
@@ -111,7 +111,7 @@ pub fn what_if(
     ensures same { sheet.new ≡ sheet.old }
     ensures answer { Asks board.now sheet.old device level byte result }
     ensures exact { ExactAnswer board.now sheet.old device level result }
-    ensures cell { Fits board.now sheet.old device level byte }
+    ensures cell { WritesRightCell board.now sheet.old device level byte }
 {
     ask(heap, board, sheet, device, level, byte)
 }

@@ -66,7 +66,7 @@ fn readied<B: Bank>(order: &Order, bank: &B) -> Result<(), EngineFault>
     }
     for device in 0..count {
         if !is_running(bank, device) {
-            return Err(EngineFault::NotAwake);
+            return Err(EngineFault::NotRunning);
         }
     }
     Ok(())
