@@ -1,5 +1,6 @@
 """Checks of the model: the documents' examples, all small graphs by brute force, the banks (selfcheck_banks.py,
-selfcheck_samebanks.py, selfcheck_calls.py), the engine (selfcheck_engine.py), and runs (selfcheck_run.py)."""
+selfcheck_samebanks.py, selfcheck_calls.py), the engine (selfcheck_engine.py), runs (selfcheck_run.py), and the folders
+for comparisons (selfcheck_folders.py)."""
 
 import itertools
 import os
@@ -10,6 +11,7 @@ import fuldrik
 import selfcheck_banks
 import selfcheck_calls
 import selfcheck_engine
+import selfcheck_folders
 import selfcheck_run
 import selfcheck_samebanks
 import sleeporder
@@ -139,7 +141,8 @@ def main():
     read = check_boards()
     print("ok: %d boards, %d of them read, %d bytes"
           % (len(boards.CASES), read, len(boards.boards_bytes())))
-    for part in (selfcheck_banks, selfcheck_samebanks, selfcheck_calls, selfcheck_engine, selfcheck_run):
+    for part in (selfcheck_banks, selfcheck_samebanks, selfcheck_calls, selfcheck_engine, selfcheck_run,
+                 selfcheck_folders):
         part.main()
     print("ok")
 
