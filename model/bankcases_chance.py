@@ -3,8 +3,8 @@
 The calls are led by the model: devices are taken to levels step by step, and what hinders one of them is cleared now
 and then, so that most lowerings and raisings are taken, and all levels are met."""
 
-from bankmaking import (LEAVES, SHAPES, Case, Free, Injector, Pair, any_way, built, count, device_count, look, looks,
-                        lower, put, raise_)
+from bankmaking import Case, any_way, count, look, looks, lower, put, raise_
+from bankparts import LEAVES, Free, Injector, Pair, built, device_count
 from chances import of_each_shape, others
 from fuldrik import Refused
 

@@ -1,6 +1,7 @@
 """Cases of each kind of bank by itself: register, bus, quiet, and the free bank."""
 
-from bankmaking import (bus, case, choice, free, look, looks, lower, put, quiet, raise_, refused, register)
+from bankmaking import case, look, looks, lower, put, raise_, refused
+from bankparts import bus, choice, free, quiet, register
 
 
 # --- Register bank ----------------------------------------------------------

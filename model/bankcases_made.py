@@ -1,7 +1,8 @@
 """Cases of the banks that are made of banks: pairs and injectors."""
 
-from bankmaking import (SHAPES, Pair, bus, case, choice, clear_words, device_count, free, injector, look, looks, lower,
-                        put, quiet, raise_, refused, register, sample, shape_name)
+from bankmaking import case, look, looks, lower, put, raise_, refused
+from bankparts import (SHAPES, Pair, bus, choice, clear_words, device_count, free, injector, quiet, register, sample,
+                       shape_name)
 
 
 def deep(device, levels):

@@ -1,7 +1,8 @@
 """Cases of refusals: of calls on every shape, and of makings; and banks that have no devices at all or on one side."""
 
-from bankmaking import (LEAVES, SHAPES, Pair, bus, case, choice, clear_words, count, device_count, free, injector,
-                        leaves, look, looks, lower, not_made, put, quiet, raise_, refused, register, sample, shape_name)
+from bankmaking import case, count, look, looks, lower, not_made, put, raise_, refused
+from bankparts import (LEAVES, SHAPES, Pair, bus, choice, clear_words, device_count, free, injector, leaves, quiet,
+                       register, sample, shape_name)
 
 SIZES = (2, 1, 3)         # how many devices the leaves of a sample have
 

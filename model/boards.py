@@ -10,12 +10,13 @@ import sys
 
 import cases_chance
 import cases_file
+import cases_folders
 import cases_graph
 import cases_record
 import fuldrik
 
-CASES = [case for part in (cases_file, cases_record, cases_graph, cases_chance)
-         for case in part.cases()]
+PARTS = (cases_file, cases_record, cases_graph, cases_chance, cases_folders)
+CASES = [case for part in PARTS for case in part.cases()]
 
 
 def verdict(data):

@@ -1,6 +1,6 @@
 """Cases made by chance: some of each shape, and others for a comparison."""
 
-from bankmaking import SHAPES
+from bankparts import SHAPES
 from making import Chance
 
 

@@ -1,6 +1,6 @@
-"""What compare.py and compare_run.py have in common: a program that reads files in the folder that it is run in, and
-prints one text, is run in folders by chance and in some that no chance makes. What it prints, its status and its empty
-standard error are held to the model's."""
+"""What compare, compare.py and compare_run.py have in common: a program that reads files in the folder that it is run
+in, and prints one text, is run in the folders of folders.py and in some that no chance makes. What it prints, its
+status and its empty standard error are held to the model's."""
 
 import os
 import subprocess
@@ -8,13 +8,13 @@ import tempfile
 from itertools import product
 from typing import Callable, NamedTuple
 
+from folders import MISSING, folders
 from sleeporder import bytes_of
 
 SECONDS = 10              # how long the program may take in one folder
 HELP_LINES = 10           # what it prints of itself
 
 # What may stand in place of a file: bytes, or one of these.
-MISSING = None
 FOLDER = "folder"
 ENDLESS = "/dev/zero"
 EMPTY = "/dev/null"
@@ -54,21 +54,23 @@ def ended(program, folder, arguments=(), output=subprocess.PIPE):
     return Run(run.stdout or b"", run.stderr, run.returncode)
 
 
-def shown(content):
-    return content.hex() or "no bytes" if isinstance(content, bytes) else str(content)
+def named(contents):
+    """Contents of the kinds above in words."""
+    return " and ".join("a good file" if isinstance(content, bytes) else "no file" if content is MISSING else content
+                        for content in contents)
 
 
 class InFolders(NamedTuple):
     """A program that is run in folders: its crate, the files that it reads, and of the model what it answers to their
-    bytes, and contents of these files by a seed and a count. `good` are contents that are not refused, and `bad` are
-    some that are."""
+    bytes, and contents of these files by the numbers of test cases. `good` are contents that are not refused, and `bad`
+    are some that are."""
     crate: str
     files: tuple
     answer: Callable
-    more_contents: Callable
+    tests: dict
     good: tuple
     bad: tuple
-    count: int                # how many contents are made by chance where no count is given
+    count: int = 4000         # how many folders are made by chance where no count is given
 
     def folder(self, contents):
         """A folder with these contents."""
@@ -82,12 +84,23 @@ class InFolders(NamedTuple):
         text, status = self.answer(*[bytes_of(os.path.join(folder, name)) for name in self.files])
         return Run(text.encode("ascii"), b"", status)
 
+    def runs(self, program, folder, arguments=()):
+        """How the program ends in this folder, and how the model does."""
+        return ended(program, folder, arguments), self.expected(folder)
+
     def differs(self, program, contents, arguments=()):
         with self.folder(contents) as folder:
-            return ended(program, folder, arguments) != self.expected(folder)
+            found, expected = self.runs(program, folder, arguments)
+            return found != expected
 
-    def content_differences(self, program, many):
-        return [" and ".join(map(shown, contents)) for contents in many if self.differs(program, contents)]
+    def contents(self, count, seed):
+        """What is in the folders that chance makes and in others, each with a name."""
+        for contents in self.strange_contents():
+            yield named(contents), contents
+        for number, contents in self.tests.items():
+            yield "test case %d" % number, contents
+        for number, made in enumerate(folders(seed, count)):
+            yield "folder %d of seed %d" % (number, seed), made[:len(self.files)]
 
     def strange_contents(self):
         """Every file in every strange way, with the other ones good or strange too."""
@@ -114,8 +127,12 @@ class InFolders(NamedTuple):
 
     def compare(self, program, count, seed):
         """How many contents there were, and what was different."""
-        many = list(self.strange_contents()) + list(self.more_contents(seed, count))
-        return len(many), self.content_differences(program, many) + self.other_differences(program)
+        compared, different = 0, self.other_differences(program)
+        for name, contents in self.contents(count, seed):
+            compared += 1
+            if self.differs(program, contents):
+                different.append(name)
+        return compared, different
 
 
 def is_help(run):

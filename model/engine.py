@@ -65,6 +65,7 @@ class Engine:
         self.order = list(order)
         self.bank = bank
         self.n = len(order)
+        self.levels = [0] * self.n
         self.at = AWAKE           # the stage
         self.kept = None          # the device of the alarm that is kept
         self.outcome = None       # of the attempt, once its descent has ended
@@ -79,18 +80,23 @@ class Engine:
 
     def k(self):
         """The sum of all levels."""
-        return sum(self.bank.look(device)[0] for device in range(self.n))
+        return sum(self.levels)
+
+    def called(self, device, code):
+        """The code of a lowering or a raising, of which this comes behind each: nothing else changes a level."""
+        self.levels[device] = self.bank.look(device)[0]
+        return code
 
     def lower_next(self):
         """Lowering k, taken or not; its entry."""
         device, phase = self.lowering(self.k())
-        self.entries.append(Entry(device, phase, DOWN, self.bank.lower(device)))
+        self.entries.append(Entry(device, phase, DOWN, self.called(device, self.bank.lower(device))))
         return self.entries[-1]
 
     def raise_last(self):
         """The raising of lowering k - 1."""
         device, phase = self.lowering(self.k() - 1)
-        self.entries.append(Entry(device, phase, UP, self.bank.raise_(device)))
+        self.entries.append(Entry(device, phase, UP, self.called(device, self.bank.raise_(device))))
 
     # What the calls are made of
 

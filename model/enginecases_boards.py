@@ -1,8 +1,8 @@
 """Histories made by hand: alarms beside hindrances, hindrances that change on the way, several attempts, orders, 64
 devices, and makings."""
 
-from bankmaking import (SHAPES, Pair, bus, choice, clear_words, device_count, free, injector, leaves, quiet, register,
-                        sample, shape_name)
+from bankparts import (SHAPES, Pair, bus, choice, clear_words, device_count, free, injector, leaves, quiet, register,
+                       sample, shape_name)
 from enginecases_made import attempt, back, down
 from enginemaking import Board, case, chain, not_made
 

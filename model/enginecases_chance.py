@@ -3,7 +3,8 @@
 The calls are led by the model's engine: most of them are obeyed, so that all stages and all phases are met."""
 
 from bankcases_chance import any_word, free_word, some_errno, thin_bytes
-from bankmaking import LEAVES, SHAPES, Call, Free, any_way, built, count, leaves, look, lower, put, raise_
+from bankmaking import Call, any_way, count, look, lower, put, raise_
+from bankparts import LEAVES, Free, built, leaves
 from calls import after
 from engine import ASLEEP, AWAKE, COMING_UP, GOING_DOWN, LANDED, Engine
 from enginemaking import Board, Case, any_alarm, any_close, any_open, any_step, told

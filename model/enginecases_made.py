@@ -2,8 +2,8 @@
 
 The schedules of small boards are written out here, so that they do not come from the model."""
 
-from bankmaking import (SHAPES, Pair, bus, clear_words, device_count, free, injector, leaves, quiet, register, sample,
-                        shape_name)
+from bankparts import (SHAPES, Pair, bus, clear_words, device_count, free, injector, leaves, quiet, register, sample,
+                       shape_name)
 from enginemaking import Board, case, chain
 
 # Device and phase of each lowering, by the order.

@@ -6,7 +6,8 @@ They are not among the test histories; compare_engine.py runs them besides those
 
 from typing import NamedTuple
 
-from bankmaking import Call, Pair, bus, free, injector, quiet, register
+from bankmaking import Call
+from bankparts import Pair, bus, free, injector, quiet, register
 from calls import after
 from engine import ASLEEP, AWAKE, COMING_UP, GOING_DOWN, LANDED, Engine
 from enginecases_made import LOWERINGS

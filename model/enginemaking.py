@@ -4,8 +4,9 @@ cases."""
 from typing import NamedTuple, Optional
 
 import fuldrik
-from bankmaking import SHAPES, Call
+from bankmaking import Call
 from bankmaking import script as bank_script
+from bankparts import SHAPES
 from engine import RefusedByBank
 from fuldrik import Refused
 

@@ -16,7 +16,7 @@ class RaisesTheRefused(Engine):
             super().raise_last()
             return
         device, phase = self.lowering(k)
-        self.entries.append(Entry(device, phase, UP, self.bank.raise_(device)))
+        self.entries.append(Entry(device, phase, UP, self.called(device, self.bank.raise_(device))))
 
 
 class CompletesInTheOrder(Engine):
@@ -26,7 +26,7 @@ class CompletesInTheOrder(Engine):
             super().raise_last()
             return
         device = next(device for device in self.order if self.bank.look(device)[0] == 1)
-        self.entries.append(Entry(device, 1, UP, self.bank.raise_(device)))
+        self.entries.append(Entry(device, 1, UP, self.called(device, self.bank.raise_(device))))
 
 
 class OneSavedWord(Engine):
@@ -44,7 +44,7 @@ class DeviceByDevice(Engine):
             return super().close()
         for device in reversed(self.order):
             for level in range(self.bank.look(device)[0], 0, -1):
-                self.entries.append(Entry(device, level, UP, self.bank.raise_(device)))
+                self.entries.append(Entry(device, level, UP, self.called(device, self.bank.raise_(device))))
         return super().close()
 
 

@@ -1,6 +1,6 @@
 """What-ifs: every cell of a few boards, and what is refused, in the order of the tests."""
 
-from bankmaking import cells
+from bankparts import cells
 from making import put
 from runcases_made import MIXED, THREE_DEVICES, three_devices
 from runcases_refused import DATA, GOOD, T

@@ -3,7 +3,7 @@ answered."""
 
 from typing import NamedTuple, Optional
 
-from bankmaking import cells, clear_words
+from bankparts import cells, clear_words
 from making import NONE, Draft, device, plain_links
 
 OUTCOME = 65535           # the index that stands for the line of the outcome

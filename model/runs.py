@@ -8,6 +8,7 @@ import sys
 
 import calls
 import runcases_chance
+import runcases_folders
 import runcases_lines
 import runcases_made
 import runcases_refused
@@ -18,8 +19,8 @@ from lines import Lines
 from runmaking import OUTCOME, given
 from running import Running
 
-CASES = [case for part in (runcases_made, runcases_refused, runcases_whatif, runcases_lines, runcases_chance)
-         for case in part.cases()]
+PARTS = (runcases_made, runcases_refused, runcases_whatif, runcases_lines, runcases_chance, runcases_folders)
+CASES = [case for part in PARTS for case in part.cases()]
 
 
 # --- One case ---------------------------------------------------------------

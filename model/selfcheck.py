@@ -1,5 +1,6 @@
-"""Checks of the model: the documents' examples, all small graphs by brute force, the banks (selfcheck_banks.py), the
-engine (selfcheck_engine.py), and runs (selfcheck_run.py)."""
+"""Checks of the model: the documents' examples, all small graphs by brute force, the banks (selfcheck_banks.py,
+selfcheck_samebanks.py, selfcheck_calls.py), the engine (selfcheck_engine.py), runs (selfcheck_run.py), and the folders
+for comparisons (selfcheck_folders.py)."""
 
 import itertools
 import os
@@ -8,8 +9,11 @@ import tempfile
 import boards
 import fuldrik
 import selfcheck_banks
+import selfcheck_calls
 import selfcheck_engine
+import selfcheck_folders
 import selfcheck_run
+import selfcheck_samebanks
 import sleeporder
 from making import Draft, device, link, plain_devices, plain_links
 
@@ -137,9 +141,9 @@ def main():
     read = check_boards()
     print("ok: %d boards, %d of them read, %d bytes"
           % (len(boards.CASES), read, len(boards.boards_bytes())))
-    selfcheck_banks.main()
-    selfcheck_engine.main()
-    selfcheck_run.main()
+    for part in (selfcheck_banks, selfcheck_samebanks, selfcheck_calls, selfcheck_engine, selfcheck_run,
+                 selfcheck_folders):
+        part.main()
     print("ok")
 
 

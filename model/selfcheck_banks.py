@@ -1,15 +1,15 @@
-"""Checks of the model of banks: the documents' examples and claims, by small banks exhausted and by calls of chance."""
+"""Checks of the model of banks: the documents' examples, the rules for every bank, and all states of a small bus. Banks
+that are to answer alike are in selfcheck_samebanks.py, and the test calls in selfcheck_calls.py."""
 
 import copy
 
 import banks
 import calls
-from bankcases_chance import more_cases, some_calls, some_cells, some_part, some_word
-from bankmaking import (LEAVES, SHAPES, Case, Free, Injector, Pair, any_way, bus, built, device_count, hindrances, look,
-                        lower, put, quiet, raise_, register)
-from fuldrik import Refused
+from bankcases_chance import more_cases, some_word
+from bankmaking import any_way, look, lower, put, raise_
+from bankparts import device_count
 from making import Chance
-from reading import Reader
+
 
 
 # --- The examples of docs/RULES.md ------------------------------------------
@@ -171,177 +171,12 @@ def check_bus():
     return len(states), held
 
 
-# --- Banks that are to be as another ----------------------------------------
-
-def same(note, parts, called):
-    """Each part answers all calls as the first does, or none of them is made."""
-    found = [calls.answers(Case(note, part, called)) for part in parts]
-    assert all(texts == found[0] for texts in found), (note, parts, called)
-
-
-def calls_for(chance, part, length=40):
-    try:
-        return some_calls(chance, part, length)
-    except Refused:
-        return [any_way(lower(0))]
-
-
-def some_leaf(chance, most=5):
-    form = ("register", "bus", "quiet", "free")[chance.below(4)]
-    part = some_part(chance, form)
-    return part if len(part.words) <= most else some_leaf(chance, most)
-
-
-def merged(outer, inner):
-    """Cells of one injector that is to be as an outer one over an inner one."""
-    length = max(len(outer), len(inner))
-    return bytes(a or b for a, b in zip(outer.ljust(length, b"\0"), inner.ljust(length, b"\0")))
-
-
-def cut(cells, count):
-    """Cells for so many devices, and those for the devices behind them."""
-    cells = cells[:256]
-    return cells[:4 * count], cells[4 * count:]
-
-
-def check_sameness():
-    chance = Chance(503)
-    for round_ in range(200):
-        below = some_part(chance, SHAPES[round_ % len(SHAPES)])
-        called = calls_for(chance, below)
-        zeros = bytes(chance.below(300))
-        same("cells that are all 0", [below, Injector(below, zeros)], called)
-        same("nothing on the left", [below, Pair(register(), below), Pair(bus(), below)], called)
-        same("nothing on the right", [below, Pair(below, quiet()), Pair(below, bus())], called)
-
-        sides = [some_leaf(chance), some_leaf(chance), some_leaf(chance)]
-        nested = [Pair(Pair(sides[0], sides[1]), sides[2]), Pair(sides[0], Pair(sides[1], sides[2]))]
-        same("pairs of pairs", nested, calls_for(chance, nested[0]))
-
-        inner, outer = some_cells(chance, device_count(below)), some_cells(chance, device_count(below))
-        two = Injector(Injector(below, inner), outer)
-        one = Injector(below, merged(outer[:256], inner[:256]))
-        same("an injector over an injector", [two, one], calls_for(chance, two))
-
-        cells = some_cells(chance, device_count(sides[0]) + device_count(sides[1]))
-        left, right = cut(cells, device_count(sides[0]))
-        over = Injector(Pair(sides[0], sides[1]), cells)
-        under = Pair(Injector(sides[0], left), Injector(sides[1], right))
-        same("an injector over a pair", [over, under], calls_for(chance, over))
-
-
-def check_too_many():
-    """Pairs of three banks with about 64 devices: both nestings are made, or both are refused."""
-    chance = Chance(504)
-    made = 0
-    for _ in range(100):
-        sizes = [chance.below(3) * 15 + chance.below(10) for _ in range(3)]
-        sides = [quiet(*range(size)) for size in sizes]
-        nested = [Pair(Pair(sides[0], sides[1]), sides[2]), Pair(sides[0], Pair(sides[1], sides[2]))]
-        same("pairs of pairs, many devices", nested, [look(device) for device in (0, 31, 63, 64)])
-        assert (calls.answers(Case("", nested[0], [])) == ["! 1 27 0"]) == (sum(sizes) > 64)
-        made += sum(sizes) <= 64
-    assert 20 < made < 80
-
-
-def noted_choices(bank, called):
-    """The words and hindrances that a bank chose as these calls were made."""
-    chosen = []
-    for call in called:
-        before = state(bank)
-        text = calls.told(bank, call)
-        if text in ("", "0") and call.letter in "pdu":
-            word = bank.look(call.device)[1] if call.letter == "d" else 0
-            chosen.append((word, hindrances({d: seen[2] for d, seen in enumerate(state(bank))})))
-        else:
-            assert state(bank) == before
-    return tuple(chosen)
-
-
-def check_free():
-    """A free bank with the choices of any other answers as that one does: a bank is its choices."""
-    chance = Chance(505)
-    for form in SHAPES * 4:
-        part = some_part(chance, form)
-        if device_count(part) <= 20:
-            called = some_calls(chance, part, 60)
-            bank = part.bank()
-            words = tuple(word for _, word, _ in state(bank))
-            first = hindrances({d: seen[2] for d, seen in enumerate(state(bank))})
-            same("a free bank in place of another", [part, Free(words, first, noted_choices(bank, called))], called)
-
-
-# --- The test calls ---------------------------------------------------------
-
-class CallsReader(Reader):
-    """Reads calls.bin as README.md has it."""
-
-    def words(self):
-        return tuple(self.number(4) for _ in range(self.number(1)))
-
-    def leaf(self, kind):
-        words = self.words()
-        if kind != "free":
-            return LEAVES[kind](words)
-        found = self.bytes(64)
-        return Free(words, found, tuple((self.number(4), self.bytes(64)) for _ in range(self.number(1))))
-
-    def case(self):
-        part = built(SHAPES[self.number(1)], self.leaf, lambda _: self.bytes(self.number(2)))
-        return part, self.calls()
-
-    def calls(self):
-        return [(self.bytes(1).decode("ascii"), self.number(1), self.number(4)) for _ in range(self.number(2))]
-
-
-def check_reading():
-    """The bytes of the test calls say the cases that they were made of."""
-    data = calls.calls_bytes(calls.CASES)
-    reader = CallsReader(data)
-    for case in calls.CASES:
-        assert reader.case() == (case.part, [call[:3] for call in case.calls]), case.note
-    assert reader.place == len(data)
-    assert len(data) < 150000 and len(calls.answers_text(calls.CASES)) < 300000
-    return len(data)
-
-
-def check_coverage():
-    """Every refusal of every call on every shape, every level, and makings on both sides of the limit."""
-    met = set()
-    for case in calls.CASES:
-        calls.check_intent(case)
-        texts = calls.answers(case)
-        if texts == ["! 1 27 0"]:
-            met.add((case.shape, 27))
-            continue
-        if device_count(case.part) == 64:
-            met.add((case.shape, 64))
-        for call, text in zip(case.calls, texts):
-            words = text.split()
-            met.add((case.shape, call.letter, words[4] if "!" in words else "hindered" if "-" in text else "taken"))
-            if call.letter == "l" and "!" not in words:
-                met.add((case.shape, "level", words[2]))
-    for shape, form in enumerate(SHAPES):
-        expected = {(shape, letter, number) for letter in "pdu" for number in ("12", "26", "taken")}
-        expected |= {(shape, "l", "12"), (shape, "l", "taken"), (shape, "c", "taken"), (shape, 27), (shape, 64)}
-        expected |= {(shape, "level", "%d" % level) for level in range(5)}
-        if form != "quiet":
-            expected.add((shape, "d", "hindered"))
-        assert expected <= met, (form, expected - met)
-
-
 def main():
     check_examples()
     check_register_words()
     print("ok: the examples of banks")
     print("ok: a bus in all its %d states, a member held %d times" % check_bus())
     print("ok: the rules for every bank, %d calls, %d changes" % check_laws())
-    check_sameness()
-    check_too_many()
-    check_free()
-    print("ok: banks that are to be as others")
-    check_coverage()
-    print("ok: %d cases of calls, %d bytes" % (len(calls.CASES), check_reading()))
 
 
 if __name__ == "__main__":

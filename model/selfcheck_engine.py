@@ -9,8 +9,9 @@ import enginecases_points
 import engines_wrong
 import engines_wrong_told
 import histories
-import selfcheck_banks
-from bankmaking import SHAPES, Call, Pair, any_way, bus, choice, free, injector, quiet, register, shape_name
+import selfcheck_calls
+from bankmaking import Call
+from bankparts import SHAPES, Pair, bus, choice, free, injector, quiet, register, shape_name
 from engine import ASLEEP, AWAKE, COMING_UP, GOING_DOWN, LANDED, STAGES, Engine
 from enginecases_chance import more_cases
 from enginemaking import Board, any_alarm, any_close, any_open, any_step, chain
@@ -204,7 +205,7 @@ def check_wrong():
 
 # --- The test histories -----------------------------------------------------
 
-class HistoriesReader(selfcheck_banks.CallsReader):
+class HistoriesReader(selfcheck_calls.CallsReader):
     """Reads histories.bin as README.md has it."""
 
     def history(self):

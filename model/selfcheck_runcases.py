@@ -28,7 +28,7 @@ def check_reading():
     reader = RunsReader(data)
     for case in runs.CASES:
         assert reader.case() == (case.letter, case.data, case.sheet, case.call), case.note
-    assert reader.place == len(data) < 450000
+    assert reader.place == len(data) < 500000
     return len(data)
 
 
