@@ -40,7 +40,7 @@ class Trial(NamedTuple):
     """A program in a folder; how it ends where memory suffices, and whether it ended as where memory is wanting."""
     program: str
     note: str
-    contents: dict            # the files of the folder
+    contents: object          # the files of the folder, or the test case
     lay: Callable             # makes the folder
     right: Callable           # of the folder
     wants: Callable           # of how it ended and of `right`
