@@ -21,7 +21,9 @@ impl Records<'_> {
         ensures { IfOk result (λ v. (v.items ≡ devices_of self.now.frame.file.now) × (vec_len v ≡ device_count self.now.frame.file.now) × AsciiNames v.items × TellApart v.items) }
     {
         let records = self.frame.devices.records();
-        records.iter().filter_map(device_in).collect(heap)
+        let mut devices = Vec::with_capacity(heap, records.len())?;
+        devices.extend(records.iter().filter_map(device_in))?;
+        Ok(devices)
     }
 
     // The links that the records describe.
@@ -29,7 +31,9 @@ impl Records<'_> {
         ensures { IfOk result (λ v. v.items ≡ links_of self.now.frame.file.now) }
     {
         let records = self.frame.links.records();
-        records.iter().filter_map(link_in).collect(heap)
+        let mut links = Vec::with_capacity(heap, records.len())?;
+        links.extend(records.iter().filter_map(link_in))?;
+        Ok(links)
     }
 }
 

@@ -19,9 +19,9 @@ impl Superiors {
     }
 
     // The order of the table's devices, or why there is none.
-    pub fn order(self) -> Result<Order, Circle>
-        ensures answers { Answers self result }
-        ensures exact { Exact self result }
+    pub fn order(&self) -> Result<Order, Circle>
+        ensures answers { Answers self.now result }
+        ensures exact { Exact self.now result }
     {
         let mut places = [0; 64];
         let mut placed = DeviceSet::empty();
@@ -35,7 +35,7 @@ impl Superiors {
         match self.least_absent(placed) {
             Some(device) => Err(Circle { device }),
             None => Ok(Order {
-                superiors: self,
+                superiors: *self,
                 places,
             }),
         }
