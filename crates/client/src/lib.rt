@@ -1,9 +1,10 @@
 // A program over an engine of any bank that closes what it opens. The check refuses it if some path lets the ticket go.
 #![tactic(auto)]
 
-ghost use Rattle.std.specs.Prelude.{◌≡◌, true, Ok, IfOk, OnErr};
+ghost use Rattle.std.specs.Prelude.{◌≡◌, true, false, Ok, IfOk, MatchResult, OnErr};
 ghost use Rattle.history.specs.declared.answer.Answer.TheVariants.{Closed};
 ghost use Rattle.history.specs.declared.call.Call.TheVariants.{Close};
+ghost use Rattle.history.specs.declared.fault.EngineFault.TheVariants.{InAttempt};
 ghost use Rattle.engine.specs.States.{state, KeepsLaw};
 ghost use Rattle.engine.specs.Tickets.{is_open};
 ghost use Rattle.client.specs.Naps.{GivesBack};
@@ -18,6 +19,7 @@ use history::outcome::Outcome;
 fn close<B: Bank>(engine: &mut Engine<B>, ticket: Ticket) -> Outcome
     requires { is_open engine.old.standing ≡ true }
     ensures law { KeepsLaw ⟦<B as Bank>⟧ Close engine.old (Ok (Closed result)) engine.new }
+    ensures order { engine.new.order ≡ engine.old.order }
 {
     match engine.close(ticket) {
         Ok(outcome) => outcome,
@@ -28,6 +30,8 @@ fn close<B: Bank>(engine: &mut Engine<B>, ticket: Ticket) -> Outcome
 // Opens an attempt, asks for so many steps, whatever they answer, and closes it. Refused in an attempt, which is then as it was.
 pub fn nap<B: Bank>(engine: &mut Engine<B>, steps: u16) -> Result<Outcome, EngineFault>
     ensures words { IfOk result (λ _. GivesBack ⟦<B as Bank>⟧ engine.old engine.new) }
+    ensures refused { MatchResult result (λ _. is_open engine.old.standing ≡ false) (λ fault. (is_open engine.old.standing ≡ true) × (fault ≡ InAttempt)) }
+    ensures order { engine.new.order ≡ engine.old.order }
     ensures none { OnErr result (state ⟦<B as Bank>⟧ engine.new ≡ state ⟦<B as Bank>⟧ engine.old) }
 {
     let ticket = engine.open()?;
