@@ -113,7 +113,8 @@ def arms(scope):
                 new, old = source.span(*other.value), source.span(*one.value)
                 used = {source.at(i) for i in range(*other.value)} & bound_in(source, other.pattern)
                 if new != old and used <= bound_in(source, one.pattern):
-                    yield edit_of(source, one.value[0], new, "arm", one.value[1])
+                    comma = "," if source.at(one.value[1]) not in (",", "}") and new[:1] != "{" else ""
+                    yield edit_of(source, one.value[0], new + comma, "arm", one.value[1])
     for brace, kind in scope.kinds.items():
         close = source.partner[brace]
         if kind == "block" and source.at(close + 1) == "else" and source.at(close + 2) == "{":
