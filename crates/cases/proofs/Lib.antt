@@ -1,5 +1,5 @@
 pub mod Testing
 pub mod Outcome
-pub mod Sleeping
+pub mod Running
 pub mod Showing
 pub mod Proved

@@ -32,14 +32,14 @@ use Rattle.history.specs.declared.entry.Entry.{Entry}
 use Rattle.history.specs.declared.fault.EngineFault.{EngineFault}
 use Rattle.history.specs.declared.standing.Stage.{Stage}
 use Rattle.history.specs.declared.standing.Stage.TheVariants as stage
-use Rattle.cases.specs.declared.sessions.Session.{Session}
-use Rattle.cases.specs.declared.sessions.SessionFault.{SessionFault}
-use Rattle.cases.specs.declared.sessions.SessionFault.TheVariants.{Bank as BankRefuses, Engine as EngineRefuses, Memory as NoSpace}
+use Rattle.sessions.specs.declared.session.Session.{Session}
+use Rattle.sessions.specs.declared.session.SessionFault.{SessionFault}
+use Rattle.sessions.specs.declared.session.SessionFault.TheVariants.{Bank as BankRefuses, Engine as EngineRefuses, Memory as NoSpace}
 use Rattle.cases.specs.Engines.{three_parts, one_quiet, alarm_first, alarm_first_answers, by_lcd, one_sleeps, one_sleeps_answers, one_sleeps_journal, one_wakes_journal, slept_alone, busy, busy_answers, busy_journal, refusing, refusing_answers, refusing_journal, ends}
-use Rattle.cases.specs.Sessions.{SessionAnswers}
-use Rattle.cases.specs.Injected.{BoardAnswers}
+use Rattle.sessions.specs.Sessions.{SessionAnswers}
+use Rattle.sessions.specs.Injected.{BoardAnswers}
 use Rattle.boardbank.specs.Boards.{Parts}
-use Rattle.cases.specs.Registers.{RegistersAnswer}
+use Rattle.sessions.specs.Registers.{RegistersAnswer}
 use Rattle.cases.specs.Boards.{three_devices, four_devices, short, later_edition, no_devices, near_table, same_names, self_link, circle, one_device, busy_device}
 use Rattle.cases.specs.Files.{i2c_refuses, i2c_refuses_text, d_refuses, d_refuses_text, no_faults, one_sleeps_text, busy_text, short_sheet}
 use Rattle.lines.specs.declared.report.Report.{Report}
@@ -94,9 +94,9 @@ pub data Case : Type 0 where
   -- an engine of this order over such a bank answers these calls so; then it has this journal, and stands in this stage
   plays : Parts → List ℕ → List engine_call.Call → List (Result Answer EngineFault) → List Entry → Stage → Case
   -- the board of this file, which has this order, is run with this sheet by so many calls, and this text is printed of it
-  sleeps : List ℕ → List ℕ → List ℕ → ℕ → List ℕ → Case
+  runs : List ℕ → List ℕ → List ℕ → ℕ → List ℕ → Case
   -- this file is refused so where it is run with this sheet, and this line is printed of it
-  stays : List ℕ → List ℕ → ProgramFault → List ℕ → Case
+  is_refused : List ℕ → List ℕ → ProgramFault → List ℕ → Case
   -- a what-if of these files, of which the board has this order, of this device and level and with this byte, has this outcome
   asks : List ℕ → List ℕ → List ℕ → ℕ → ℕ → ℕ → Outcome → Case
   -- this is the line of a refusal
@@ -122,14 +122,14 @@ HasPlayed answers journal stage (Err (EngineRefuses fault)) = ⊥
 HasPlayed answers journal stage (Err NoSpace) = Unit {0}
 
 -- so many calls were made, the making among them, this text is printed, and the program ends well; or memory is wanting
-abbrev pub HasSlept : ℕ → List ℕ → Result Report RunFault → Type 0
-HasSlept calls expected (Ok report) = (report.attempt.calls ≡ calls) × (run_printed (Ok report) ≡ expected) × (end_of (Ok report) ≡ Ran)
-HasSlept calls expected (Err (Program fault)) = ⊥
-HasSlept calls expected (Err NoRunMemory) = Unit {0}
+abbrev pub HasRun : ℕ → List ℕ → Result Report RunFault → Type 0
+HasRun calls expected (Ok report) = (report.attempt.calls ≡ calls) × (run_printed (Ok report) ≡ expected) × (end_of (Ok report) ≡ Ran)
+HasRun calls expected (Err (Program fault)) = ⊥
+HasRun calls expected (Err NoRunMemory) = Unit {0}
 
 -- this refusal comes, this line is printed, and the program ends so
-abbrev pub HasStayed : ProgramFault → List ℕ → Result Report RunFault → Type 0
-HasStayed fault expected ran = (ran ≡ Err (Program fault)) × (run_printed ran ≡ expected) × (end_of ran ≡ IsRefusal)
+abbrev pub IsRefusedSo : ProgramFault → List ℕ → Result Report RunFault → Type 0
+IsRefusedSo fault expected ran = (ran ≡ Err (Program fault)) × (run_printed ran ≡ expected) × (end_of ran ≡ IsRefusal)
 
 -- this outcome, or memory is wanting
 abbrev pub HasAsked : Outcome → Result Outcome RunFault → Type 0
@@ -145,8 +145,8 @@ Holds (refuses bytes fault printed) = (r : Result Board ReadFault) → Reads byt
 Holds (registers words calls answers) = (r : Result (Vec (Result Reply BankFault) Global) MakeFault) → RegistersAnswer words calls r → HasAnswered answers r
 Holds (whole parts calls answers) = (r : Result (Vec (Result Reply BankFault) Global) MakeFault) → BoardAnswers parts calls r → HasAnswered answers r
 Holds (plays parts order calls answers journal stage) = (r : Result Session SessionFault) → SessionAnswers parts order calls r → HasPlayed answers journal stage r
-Holds (sleeps board sheet order calls shown) = (ran : Result Report RunFault) → Runs board sheet ran → HasSlept calls shown ran
-Holds (stays board sheet fault shown) = (ran : Result Report RunFault) → Runs board sheet ran → HasStayed fault shown ran
+Holds (runs board sheet order calls shown) = (ran : Result Report RunFault) → Runs board sheet ran → HasRun calls shown ran
+Holds (is_refused board sheet fault shown) = (ran : Result Report RunFault) → Runs board sheet ran → IsRefusedSo fault shown ran
 Holds (asks board sheet order device level byte outcome) = (r : Result Outcome RunFault) → Asks board sheet device level byte r → HasAsked outcome r
 Holds (tells fault shown) = refusal_line (run_told fault) ≡ shown
 
@@ -162,8 +162,8 @@ IsChecked (refuses bytes fault printed) = (r : Result Order BoardFault) → Chec
 IsChecked (registers words calls answers) = Unit {0}
 IsChecked (whole parts calls answers) = Unit {0}
 IsChecked (plays parts order calls answers journal stage) = Unit {0}
-IsChecked (sleeps board sheet order calls shown) = Unit {0}
-IsChecked (stays board sheet fault shown) = Unit {0}
+IsChecked (runs board sheet order calls shown) = Unit {0}
+IsChecked (is_refused board sheet fault shown) = Unit {0}
 IsChecked (asks board sheet order device level byte outcome) = Unit {0}
 IsChecked (tells fault shown) = Unit {0}
 
@@ -180,8 +180,8 @@ IsPrinted (refuses bytes fault shown) = (r : Result (String Global) ListFault) �
 IsPrinted (registers words calls answers) = Unit {0}
 IsPrinted (whole parts calls answers) = Unit {0}
 IsPrinted (plays parts order calls answers journal stage) = Unit {0}
-IsPrinted (sleeps board sheet order calls shown) = Unit {0}
-IsPrinted (stays board sheet fault shown) = Unit {0}
+IsPrinted (runs board sheet order calls shown) = Unit {0}
+IsPrinted (is_refused board sheet fault shown) = Unit {0}
 IsPrinted (asks board sheet order device level byte outcome) = Unit {0}
 IsPrinted (tells fault shown) = Unit {0}
 
@@ -230,13 +230,13 @@ cases =
     ∷ plays one_quiet (0 ∷ []) (one_sleeps ++ Close ∷ []) (one_sleeps_answers ++ ends slept_alone ∷ []) (one_sleeps_journal ++ one_wakes_journal) stage.Awake
     ∷ plays (record { registers = 0x80000000 ∷ []; buses = []; quiets = []; cells = [] }) (0 ∷ []) busy busy_answers busy_journal stage.Awake
     ∷ plays (three_parts 110) (0 ∷ 1 ∷ 2 ∷ []) refusing refusing_answers refusing_journal stage.Awake
-    ∷ sleeps three_devices i2c_refuses (0 ∷ 1 ∷ 2 ∷ []) 12 i2c_refuses_text
-    ∷ sleeps four_devices d_refuses (1 ∷ 3 ∷ 0 ∷ 2 ∷ []) 24 d_refuses_text
-    ∷ sleeps one_device no_faults (0 ∷ []) 7 one_sleeps_text
-    ∷ sleeps busy_device no_faults (0 ∷ []) 6 busy_text
-    ∷ stays circle [] (OfBoard (Circle 0)) (codes "! 3 7 0\n")
-    ∷ stays three_devices short_sheet Sheet (codes "! 3 8 0\n")
-    ∷ stays short [] (OfBoard Size) (codes "! 3 1 0\n")
+    ∷ runs three_devices i2c_refuses (0 ∷ 1 ∷ 2 ∷ []) 12 i2c_refuses_text
+    ∷ runs four_devices d_refuses (1 ∷ 3 ∷ 0 ∷ 2 ∷ []) 24 d_refuses_text
+    ∷ runs one_device no_faults (0 ∷ []) 7 one_sleeps_text
+    ∷ runs busy_device no_faults (0 ∷ []) 6 busy_text
+    ∷ is_refused circle [] (OfBoard (Circle 0)) (codes "! 3 7 0\n")
+    ∷ is_refused three_devices short_sheet Sheet (codes "! 3 8 0\n")
+    ∷ is_refused short [] (OfBoard Size) (codes "! 3 1 0\n")
     ∷ asks three_devices i2c_refuses (0 ∷ 1 ∷ 2 ∷ []) 1 2 0 (outcome.Slept None 12)
     ∷ asks three_devices i2c_refuses (0 ∷ 1 ∷ 2 ∷ []) 2 1 7 (outcome.Fault 7 2 Prepare 2)
     ∷ tells Buffer (codes "! 3 11 0")
@@ -253,8 +253,8 @@ board_of (refuses bytes fault printed) = Some bytes
 board_of (registers words calls answers) = None
 board_of (whole parts calls answers) = None
 board_of (plays parts order calls answers journal stage) = None
-board_of (sleeps board sheet order calls shown) = None
-board_of (stays board sheet fault shown) = None
+board_of (runs board sheet order calls shown) = None
+board_of (is_refused board sheet fault shown) = None
 board_of (asks board sheet order device level byte outcome) = None
 board_of (tells fault shown) = None
 
