@@ -2,4 +2,10 @@ pub mod Testing
 pub mod Outcome
 pub mod Running
 pub mod Showing
+pub mod PassingBoards
+pub mod PassingBanks
+pub mod PassingEngines
+pub mod PassingRuns
+pub mod PassingLimits
+pub mod PassingLines
 pub mod Proved

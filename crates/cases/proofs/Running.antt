@@ -28,7 +28,7 @@ use Rattle.run.specs.Running.{Runs, Ran}
 use Rattle.run.specs.Asking.{Asks, IsLevel, cell}
 use Rattle.run.proofs.Exact.{files_unfit, files_once, asking_unfit}
 use Rattle.runlisting.specs.Printing.{ended, printed, report_lines}
-use Rattle.cases.specs.Cases.{HasRun, IsRefusedSo, HasAsked}
+use Rattle.cases.specs.Holding.{HasRun, IsRefusedSo, HasAsked}
 
 -- the outcome in the answer to a close
 abbrev outcome_in : Result Answer EngineFault → Outcome

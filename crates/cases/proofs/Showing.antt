@@ -24,7 +24,8 @@ use Rattle.listing.specs.declared.printing.ListFault.{ListFault}
 use Rattle.listing.specs.declared.printing.ListFault.TheVariants.{Refused as IsRefused, Memory as NoMemory}
 use Rattle.listing.specs.Lines.{lines}
 use Rattle.listing.specs.Printing.{Lists, printed as bytes_printed}
-use Rattle.cases.specs.Cases.{Case, Contents, reads, refuses, registers, whole, plays, runs, is_refused, asks, tells, HasAnswered, HasPlayed, HasRead, HasOrder, HasPrinted, Holds, IsChecked, IsPrinted}
+use Rattle.cases.specs.Case.{Case, Contents, reads, refuses, registers, whole, plays, runs, is_refused, asks}
+use Rattle.cases.specs.Holding.{HasAnswered, HasPlayed, HasRead, HasOrder, HasPrinted, Holds, IsChecked, IsPrinted}
 use Rattle.bank.specs.declared.call.Call.{Call}
 use Rattle.bank.specs.declared.call.Reply.{Reply}
 use Rattle.bank.specs.declared.fault.BankFault.{BankFault}
@@ -50,8 +51,6 @@ use Rattle.program.specs.declared.fault.ProgramFault.TheVariants.{Board as OfBoa
 use Rattle.program.specs.declared.fault.RunFault.TheVariants.{Program}
 use Rattle.run.specs.Files.{RefusesFiles, device_cells}
 use Rattle.run.specs.Asking.{cell}
-use Rattle.program.specs.Faults.{told as run_told}
-use Rattle.refusal.specs.Lines.{line as refusal_line}
 use Rattle.runlisting.specs.Printing.{printed as run_printed}
 use Rattle.cases.proofs.Running.{run_text, run_count, run_outcome, runs_so, refused_so, asks_so}
 use Rattle.std.proofs.lemmas.Bool.Decides.{nat_tests}
@@ -169,8 +168,8 @@ Passes (runs bytes sheet order calls shown) = (outcome bytes ≡ Ok order) × (l
 Passes (asks bytes sheet order device level byte outcome') =
     (outcome bytes ≡ Ok order) × (length sheet ≡ device_cells * device_count bytes) × (device < device_count bytes) × ((1 ≤ level) × (level ≤ 4))
     × (length (set sheet (cell device level) byte) ≡ device_cells * device_count bytes) × (run_outcome bytes (set sheet (cell device level) byte) order ≡ outcome')
-Passes (tells fault shown) = refusal_line (run_told fault) ≡ shown
 Passes (is_refused bytes sheet fault shown) = ComesToRefusal bytes sheet fault × (run_printed (Err (Program fault)) ≡ shown)
+Passes other = Holds other
 
 -- devices that pass the test are no reason to refuse an engine
 below : (n : ℕ) (test : ℕ → Bool) → all_below n test ≡ true → (d : ℕ) → d < n → test d ≡ true
@@ -211,31 +210,27 @@ holds (runs bytes sheet order calls shown) (e, long, count, same) = let right = 
 holds (asks bytes sheet order device level byte outcome') (e, long, known, (least, most), still, same) =
     let right = subst (IsRight bytes) e (outcome_right bytes) in
     asks_so bytes sheet order right.0 right.1 device level byte long known (record { least = least; most = most }) still outcome' same
-holds (tells fault shown) same = same
 holds (is_refused bytes sheet fault shown) (is, same) = refused_so bytes sheet fault (files_refused bytes sheet fault is) shown same
+holds other same = same
 
 pub is_checked : (c : Case) → Passes c → IsChecked c
 is_checked (reads bytes expected shown) (e, _, _) = reads_checked bytes expected.order e
 is_checked (refuses bytes fault shown) (e, _) = refuses_checked bytes fault e
-is_checked (registers words calls answers) _ = tt
-is_checked (whole parts calls answers) _ = tt
-is_checked (plays parts order calls answers journal stage) _ = tt
-is_checked (runs bytes sheet order calls shown) _ = tt
-is_checked (is_refused bytes sheet fault shown) _ = tt
-is_checked (asks bytes sheet order device level byte outcome') _ = tt
-is_checked (tells fault shown) _ = tt
+is_checked other _ = tt
 
 pub is_printed : (c : Case) → Passes c → IsPrinted c
 is_printed (reads bytes expected shown) (e, _, same) = λ r answer. subst (λ t. HasPrinted t r) same (reads_printed bytes expected.order e r answer)
 is_printed (refuses bytes fault shown) (e, same) = λ r answer. let is = refuses_printed bytes fault e r answer in (is, ap bytes_printed is ∙ same)
-is_printed (registers words calls answers) _ = tt
-is_printed (whole parts calls answers) _ = tt
-is_printed (plays parts order calls answers journal stage) _ = tt
-is_printed (runs bytes sheet order calls shown) _ = tt
-is_printed (is_refused bytes sheet fault shown) _ = tt
-is_printed (asks bytes sheet order device level byte outcome') _ = tt
-is_printed (tells fault shown) _ = tt
+is_printed other _ = tt
 
 pub of_each : {P Q : Case → Type 0} → ((c : Case) → P c → Q c) → (cs : List Case) → AllByRecursion P cs → AllByRecursion Q cs
 of_each f [] all = tt
 of_each f (c ∷ cs) (here, rest) = (f c here, of_each f cs rest)
+
+joined : (cs ds : List Case) → AllByRecursion Passes cs → AllByRecursion Passes ds → AllByRecursion Passes (cs ++ ds)
+joined [] ds all rest = rest
+joined (c ∷ cs) ds (here, more) rest = (here, joined cs ds more rest)
+
+pub all_of : (groups : List (List Case)) → AllByRecursion (AllByRecursion Passes) groups → AllByRecursion Passes (flat_map (λ group. group) groups)
+all_of [] all = tt
+all_of (group ∷ groups) (here, rest) = joined group (flat_map (λ group. group) groups) here (all_of groups rest)

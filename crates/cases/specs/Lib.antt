@@ -1,5 +1,11 @@
 pub mod Boards
 pub mod Files
+pub mod Case
+pub mod Holding
+pub mod Limits
+pub mod Attempts
+pub mod Lines
+pub mod Numbers
 pub mod Cases
 pub mod Calls
 pub mod Engines
