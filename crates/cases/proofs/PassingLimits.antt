@@ -7,7 +7,7 @@ use Rattle.cases.proofs.Showing.{Passes}
 
 pub wrong_trailers_pass : AllByRecursion Passes wrong_trailers
 unfolding digits
-wrong_trailers_pass = ((refl, refl), ((refl, refl), ((refl, refl), ((refl, refl), ((refl, refl), ((refl, refl), ((refl, refl), ((refl, refl), ((refl, refl), ((refl, refl), ((refl, refl), ((refl, refl), ((refl, refl), ((refl, refl), ((refl, refl), ((refl, refl), ((refl, refl), tt)))))))))))))))))
+wrong_trailers_pass = ((refl, refl), ((refl, refl), ((refl, refl), ((refl, refl), ((refl, refl), ((refl, refl), ((refl, refl), ((refl, refl), ((refl, refl), ((refl, refl), ((refl, refl), ((refl, refl), ((refl, refl), ((refl, refl), ((refl, refl), ((refl, refl), ((refl, refl), ((refl, refl), ((refl, refl), tt)))))))))))))))))))
 
 pub wrong_records_pass : AllByRecursion Passes wrong_records
 unfolding digits
