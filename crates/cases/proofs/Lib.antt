@@ -1,5 +1,11 @@
 pub mod Testing
 pub mod Outcome
-pub mod Sleeping
+pub mod Running
 pub mod Showing
+pub mod PassingBoards
+pub mod PassingBanks
+pub mod PassingEngines
+pub mod PassingRuns
+pub mod PassingLimits
+pub mod PassingLines
 pub mod Proved

@@ -50,10 +50,10 @@ module _ (bs : List ℕ) where
 
   -- ---- the tests in their order
 
-  -- the rest where a test passes, and else this fault
-  abbrev tested : Bool → BoardFault → Result (List ℕ) BoardFault → Result (List ℕ) BoardFault
-  tested true fault rest = rest
-  tested false fault rest = Err fault
+  -- the rest where a test passes, and else this fault; only one of them is computed
+  abbrev tested : Bool → (Unit {0} → BoardFault) → (Unit {0} → Result (List ℕ) BoardFault) → Result (List ℕ) BoardFault
+  tested true fault rest = rest tt
+  tested false fault rest = Err (fault tt)
 
   abbrev placed : Result (List ℕ) ℕ → Result (List ℕ) BoardFault
   placed (Ok order) = Ok order
@@ -61,15 +61,15 @@ module _ (bs : List ℕ) where
 
   abbrev pub outcome : Result (List ℕ) BoardFault
   outcome =
-      tested (sized bs) Size (tested (marked bs) (Mark (trailer bs)) (tested (counted bs) (Counts (trailer bs)) (tested (tabled bs) (Tables (trailer bs))
-      (tested (all_below (device_count bs) (device bs)) (DeviceRecord (device_place bs (first_failing (device_count bs) (device bs))))
-      (tested (all_below (link_count bs) (link bs)) (LinkRecord (link_place bs (first_failing (link_count bs) (link bs))))
-      (placed (ordering (device_count bs) superior)))))))
+      tested (sized bs) (λ _. Size) (λ _. tested (marked bs) (λ _. Mark (trailer bs)) (λ _. tested (counted bs) (λ _. Counts (trailer bs)) (λ _. tested (tabled bs) (λ _. Tables (trailer bs))
+      (λ _. tested (all_below (device_count bs) (device bs)) (λ _. DeviceRecord (device_place bs (first_failing (device_count bs) (device bs))))
+      (λ _. tested (all_below (link_count bs) (link bs)) (λ _. LinkRecord (link_place bs (first_failing (link_count bs) (link bs))))
+      (λ _. placed (ordering (device_count bs) superior)))))))
 
   abbrev pub IsRight : Result (List ℕ) BoardFault → Type 0
   IsRight r = MatchResult r (λ order. Right bs × IsTheOrder (device_count bs) (SuperiorIn bs) order) (Refused bs)
 
-  stage : {P : Type 0} (test : Bool) (fault : BoardFault) (rest : Result (List ℕ) BoardFault) → Decides test P → ((P → ⊥) → Refused bs fault) → (P → IsRight rest)
+  stage : {P : Type 0} (test : Bool) (fault : Unit {0} → BoardFault) (rest : Unit {0} → Result (List ℕ) BoardFault) → Decides test P → ((P → ⊥) → Refused bs (fault tt)) → (P → IsRight (rest tt))
       → IsRight (tested test fault rest)
   stage true fault rest decides fails passes = passes (decides.0 refl)
   stage false fault rest decides fails passes = fails (not_from_Decides false decides refl)

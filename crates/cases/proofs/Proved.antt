@@ -1,14 +1,17 @@
--- The worked cases: each is computed, and what the contracts say of it follows.
-use Rattle.std.proofs.Common.{◌∷◌, [], refl, lit≤, lit<}
+-- All worked cases hold: each is computed, and what the contracts say of it follows.
 use Rattle.std.specs.List.{AllByRecursion}
-use Rattle.std.specs.Fmt.{digits}
-use Rattle.cases.specs.Cases.{AllHold, AllChecked, AllPrinted, cases}
-use Rattle.cases.proofs.Showing.{Passes, holds, is_checked, is_printed, of_each}
+use Rattle.cases.specs.Cases.{AllHold, AllChecked, AllPrinted, cases, groups}
+use Rattle.cases.proofs.Showing.{Passes, holds, is_checked, is_printed, of_each, all_of}
+use Rattle.cases.proofs.PassingBoards.{of_boards_pass}
+use Rattle.cases.proofs.PassingBanks.{of_banks_pass}
+use Rattle.cases.proofs.PassingEngines.{of_engines_pass, of_attempts_pass}
+use Rattle.cases.proofs.PassingRuns.{of_runs_pass}
+use Rattle.cases.proofs.PassingLimits.{wrong_trailers_pass, wrong_records_pass, right_files_pass}
+use Rattle.cases.proofs.PassingLines.{of_refusals_pass, of_makings_pass, of_entries_pass, of_outcomes_pass, of_numbers_pass}
 
 all_pass : AllByRecursion Passes cases
-unfolding digits
 all_pass =
-    ((refl, refl, refl), ((refl, refl, refl), ((refl, refl), ((refl, refl), ((refl, refl), ((refl, refl), ((refl, refl), ((refl, refl), ((refl, refl), ((lit≤ tt, refl), ((lit≤ tt, refl), ((lit≤ tt, refl), ((lit≤ tt, refl), ((lit≤ tt, refl, refl, refl, refl, refl), ((lit≤ tt, refl, refl, refl, refl, refl), ((lit≤ tt, refl, refl, refl, refl, refl), ((lit≤ tt, refl, refl, refl, refl, refl), ((lit≤ tt, refl, refl, refl, refl, refl), ((lit≤ tt, refl, refl, refl, refl, refl), ((refl, refl, refl, refl), ((refl, refl, refl, refl), ((refl, refl, refl, refl), ((refl, refl, refl, refl), ((refl, refl), (((0 ∷ 1 ∷ 2 ∷ [], refl, refl), refl), ((refl, refl), ((refl, refl, lit< tt, (lit≤ tt, lit≤ tt), refl, refl), ((refl, refl, lit< tt, (lit≤ tt, lit≤ tt), refl, refl), (refl, (refl, (refl, (refl, (refl, tt)))))))))))))))))))))))))))))))))
+    all_of groups (of_boards_pass, (of_banks_pass, (of_engines_pass, (of_attempts_pass, (of_runs_pass, (wrong_trailers_pass, (wrong_records_pass, (right_files_pass, (of_refusals_pass, (of_makings_pass, (of_entries_pass, (of_outcomes_pass, (of_numbers_pass, tt)))))))))))))
 
 pub all_hold : AllHold
 all_hold = of_each holds cases all_pass

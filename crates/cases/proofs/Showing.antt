@@ -24,7 +24,8 @@ use Rattle.listing.specs.declared.printing.ListFault.{ListFault}
 use Rattle.listing.specs.declared.printing.ListFault.TheVariants.{Refused as IsRefused, Memory as NoMemory}
 use Rattle.listing.specs.Lines.{lines}
 use Rattle.listing.specs.Printing.{Lists, printed as bytes_printed}
-use Rattle.cases.specs.Cases.{Case, Contents, reads, refuses, registers, whole, plays, sleeps, stays, asks, tells, HasAnswered, HasPlayed, HasRead, HasOrder, HasPrinted, Holds, IsChecked, IsPrinted}
+use Rattle.cases.specs.Case.{Case, Contents, reads, refuses, registers, whole, plays, runs, is_refused, asks}
+use Rattle.cases.specs.Holding.{HasAnswered, HasPlayed, HasRead, HasOrder, HasPrinted, Holds, IsChecked, IsPrinted}
 use Rattle.bank.specs.declared.call.Call.{Call}
 use Rattle.bank.specs.declared.call.Reply.{Reply}
 use Rattle.bank.specs.declared.fault.BankFault.{BankFault}
@@ -40,27 +41,25 @@ use Rattle.history.specs.declared.standing.Stage.{Stage}
 use Rattle.history.specs.Attempts.{stage_of}
 use Rattle.history.specs.Rules.{all_said, after_all}
 use Rattle.engine.specs.Making.{Unready}
-use Rattle.cases.specs.declared.sessions.Session.{Session}
-use Rattle.cases.specs.declared.sessions.SessionFault.{SessionFault}
-use Rattle.cases.specs.declared.sessions.SessionFault.TheVariants.{Bank as BankRefuses, Engine as EngineRefuses, Memory as NoSpace}
-use Rattle.cases.specs.Sessions.{SessionAnswers}
+use Rattle.sessions.specs.declared.session.Session.{Session}
+use Rattle.sessions.specs.declared.session.SessionFault.{SessionFault}
+use Rattle.sessions.specs.declared.session.SessionFault.TheVariants.{Bank as BankRefuses, Engine as EngineRefuses, Memory as NoSpace}
+use Rattle.sessions.specs.Sessions.{SessionAnswers}
 use Rattle.attempt.specs.Runs.{just_made}
 use Rattle.program.specs.declared.fault.ProgramFault.{ProgramFault}
 use Rattle.program.specs.declared.fault.ProgramFault.TheVariants.{Board as OfBoard, Sheet, Buffer, NoDevice, NoLevel, Engine}
 use Rattle.program.specs.declared.fault.RunFault.TheVariants.{Program}
 use Rattle.run.specs.Files.{RefusesFiles, device_cells}
 use Rattle.run.specs.Asking.{cell}
-use Rattle.program.specs.Faults.{told as run_told}
-use Rattle.refusal.specs.Lines.{line as refusal_line}
 use Rattle.runlisting.specs.Printing.{printed as run_printed}
-use Rattle.cases.proofs.Sleeping.{run_text, run_count, run_outcome, sleeps_so, stays_so, asks_so}
+use Rattle.cases.proofs.Running.{run_text, run_count, run_outcome, runs_so, refused_so, asks_so}
 use Rattle.std.proofs.lemmas.Bool.Decides.{nat_tests}
 use Rattle.bank.specs.Runs.{answers_to}
 use Rattle.bankrules.specs.Rules.{each_with_one}
 use Rattle.bankrules.specs.Register.{register_kind}
-use Rattle.cases.specs.Injected.{BoardAnswers}
+use Rattle.sessions.specs.Injected.{BoardAnswers}
 use Rattle.boardbank.specs.Boards.{Parts, board_kind, board_model, total_devices}
-use Rattle.cases.specs.Registers.{RegistersAnswer}
+use Rattle.sessions.specs.Registers.{RegistersAnswer}
 use Rattle.cases.proofs.Outcome.{superior, superior_tests, outcome, IsRight, outcome_right}
 
 -- the lines of these devices in this order, with the superiors that a test finds below n
@@ -133,24 +132,24 @@ module _ (bs : List ℕ) where
 -- ---- the cases
 
 -- the files are refused so, as far as is computed
-abbrev Stays : List ℕ → List ℕ → ProgramFault → Type 0
-Stays bs sheet (OfBoard fault) = outcome bs ≡ Err fault
-Stays bs sheet Sheet = (order : List ℕ) × (outcome bs ≡ Ok order) × ((length sheet == device_cells * device_count bs) ≡ false)
-Stays bs sheet Buffer = ⊥
-Stays bs sheet (NoDevice d) = ⊥
-Stays bs sheet NoLevel = ⊥
-Stays bs sheet (Engine fault calls) = ⊥
+abbrev ComesToRefusal : List ℕ → List ℕ → ProgramFault → Type 0
+ComesToRefusal bs sheet (OfBoard fault) = outcome bs ≡ Err fault
+ComesToRefusal bs sheet Sheet = (order : List ℕ) × (outcome bs ≡ Ok order) × ((length sheet == device_cells * device_count bs) ≡ false)
+ComesToRefusal bs sheet Buffer = ⊥
+ComesToRefusal bs sheet (NoDevice d) = ⊥
+ComesToRefusal bs sheet NoLevel = ⊥
+ComesToRefusal bs sheet (Engine fault calls) = ⊥
 
 unlike : (a b : ℕ) → (a == b) ≡ false → a ≡ b → ⊥
 unlike a b e same = grind (arith, nat_tests)
 
-stays_refused : (bs sheet : List ℕ) (fault : ProgramFault) → Stays bs sheet fault → RefusesFiles bs sheet fault
-stays_refused bs sheet (OfBoard fault) e = subst (IsRight bs) e (outcome_right bs)
-stays_refused bs sheet Sheet (order, e, other) = ((subst (IsRight bs) e (outcome_right bs)).0, unlike _ _ other)
-stays_refused bs sheet Buffer none = none
-stays_refused bs sheet (NoDevice d) none = none
-stays_refused bs sheet NoLevel none = none
-stays_refused bs sheet (Engine fault calls) none = none
+files_refused : (bs sheet : List ℕ) (fault : ProgramFault) → ComesToRefusal bs sheet fault → RefusesFiles bs sheet fault
+files_refused bs sheet (OfBoard fault) e = subst (IsRight bs) e (outcome_right bs)
+files_refused bs sheet Sheet (order, e, other) = ((subst (IsRight bs) e (outcome_right bs)).0, unlike _ _ other)
+files_refused bs sheet Buffer none = none
+files_refused bs sheet (NoDevice d) none = none
+files_refused bs sheet NoLevel none = none
+files_refused bs sheet (Engine fault calls) none = none
 
 -- what is computed for a case is what is expected
 abbrev pub Passes : Case → Type 0
@@ -165,12 +164,12 @@ Passes (plays parts order calls answers journal stage) =
     × (all_said board_kind order (just_made (board_model parts)) calls ≡ answers)
     × ((after_all board_kind order (just_made (board_model parts)) calls).journal ≡ journal)
     × (stage_of (after_all board_kind order (just_made (board_model parts)) calls).standing ≡ stage)
-Passes (sleeps bytes sheet order calls shown) = (outcome bytes ≡ Ok order) × (length sheet ≡ device_cells * device_count bytes) × (run_count bytes sheet order ≡ calls) × (run_text bytes sheet order ≡ shown)
+Passes (runs bytes sheet order calls shown) = (outcome bytes ≡ Ok order) × (length sheet ≡ device_cells * device_count bytes) × (run_count bytes sheet order ≡ calls) × (run_text bytes sheet order ≡ shown)
 Passes (asks bytes sheet order device level byte outcome') =
     (outcome bytes ≡ Ok order) × (length sheet ≡ device_cells * device_count bytes) × (device < device_count bytes) × ((1 ≤ level) × (level ≤ 4))
     × (length (set sheet (cell device level) byte) ≡ device_cells * device_count bytes) × (run_outcome bytes (set sheet (cell device level) byte) order ≡ outcome')
-Passes (tells fault shown) = refusal_line (run_told fault) ≡ shown
-Passes (stays bytes sheet fault shown) = Stays bytes sheet fault × (run_printed (Err (Program fault)) ≡ shown)
+Passes (is_refused bytes sheet fault shown) = ComesToRefusal bytes sheet fault × (run_printed (Err (Program fault)) ≡ shown)
+Passes other = Holds other
 
 -- devices that pass the test are no reason to refuse an engine
 below : (n : ℕ) (test : ℕ → Bool) → all_below n test ≡ true → (d : ℕ) → d < n → test d ≡ true
@@ -207,35 +206,31 @@ holds (refuses bytes fault shown) (e, _) = refuses_holds bytes fault e
 holds (registers words calls answers) (few, e) = registers_hold words calls answers few e
 holds (whole parts calls answers) (few, e) = whole_holds parts calls answers few e
 holds (plays parts order calls answers journal stage) passes = plays_hold parts order calls answers journal stage passes
-holds (sleeps bytes sheet order calls shown) (e, long, count, same) = let right = subst (IsRight bytes) e (outcome_right bytes) in sleeps_so bytes sheet order right.0 right.1 long calls count shown same
+holds (runs bytes sheet order calls shown) (e, long, count, same) = let right = subst (IsRight bytes) e (outcome_right bytes) in runs_so bytes sheet order right.0 right.1 long calls count shown same
 holds (asks bytes sheet order device level byte outcome') (e, long, known, (least, most), still, same) =
     let right = subst (IsRight bytes) e (outcome_right bytes) in
     asks_so bytes sheet order right.0 right.1 device level byte long known (record { least = least; most = most }) still outcome' same
-holds (tells fault shown) same = same
-holds (stays bytes sheet fault shown) (is, same) = stays_so bytes sheet fault (stays_refused bytes sheet fault is) shown same
+holds (is_refused bytes sheet fault shown) (is, same) = refused_so bytes sheet fault (files_refused bytes sheet fault is) shown same
+holds other same = same
 
 pub is_checked : (c : Case) → Passes c → IsChecked c
 is_checked (reads bytes expected shown) (e, _, _) = reads_checked bytes expected.order e
 is_checked (refuses bytes fault shown) (e, _) = refuses_checked bytes fault e
-is_checked (registers words calls answers) _ = tt
-is_checked (whole parts calls answers) _ = tt
-is_checked (plays parts order calls answers journal stage) _ = tt
-is_checked (sleeps bytes sheet order calls shown) _ = tt
-is_checked (stays bytes sheet fault shown) _ = tt
-is_checked (asks bytes sheet order device level byte outcome') _ = tt
-is_checked (tells fault shown) _ = tt
+is_checked other _ = tt
 
 pub is_printed : (c : Case) → Passes c → IsPrinted c
 is_printed (reads bytes expected shown) (e, _, same) = λ r answer. subst (λ t. HasPrinted t r) same (reads_printed bytes expected.order e r answer)
 is_printed (refuses bytes fault shown) (e, same) = λ r answer. let is = refuses_printed bytes fault e r answer in (is, ap bytes_printed is ∙ same)
-is_printed (registers words calls answers) _ = tt
-is_printed (whole parts calls answers) _ = tt
-is_printed (plays parts order calls answers journal stage) _ = tt
-is_printed (sleeps bytes sheet order calls shown) _ = tt
-is_printed (stays bytes sheet fault shown) _ = tt
-is_printed (asks bytes sheet order device level byte outcome') _ = tt
-is_printed (tells fault shown) _ = tt
+is_printed other _ = tt
 
 pub of_each : {P Q : Case → Type 0} → ((c : Case) → P c → Q c) → (cs : List Case) → AllByRecursion P cs → AllByRecursion Q cs
 of_each f [] all = tt
 of_each f (c ∷ cs) (here, rest) = (f c here, of_each f cs rest)
+
+joined : (cs ds : List Case) → AllByRecursion Passes cs → AllByRecursion Passes ds → AllByRecursion Passes (cs ++ ds)
+joined [] ds all rest = rest
+joined (c ∷ cs) ds (here, more) rest = (here, joined cs ds more rest)
+
+pub all_of : (groups : List (List Case)) → AllByRecursion (AllByRecursion Passes) groups → AllByRecursion Passes (flat_map (λ group. group) groups)
+all_of [] all = tt
+all_of (group ∷ groups) (here, rest) = joined group (flat_map (λ group. group) groups) here (all_of groups rest)

@@ -1,8 +1,11 @@
 pub mod Boards
 pub mod Files
+pub mod Case
+pub mod Holding
+pub mod Limits
+pub mod Attempts
+pub mod Lines
+pub mod Numbers
 pub mod Cases
-pub mod Registers
-pub mod Injected
 pub mod Calls
-pub mod Sessions
 pub mod Engines

@@ -2,7 +2,6 @@
 ghost use Rattle.std.specs.Prelude.{◌≡◌, true};
 ghost use Rattle.engine.specs.Tickets.{is_open};
 
-use crate::sessions::{Session, run_session};
 use crate::worked_board;
 use bank::bank::Bank;
 use bank::fault::BankFault;
@@ -23,6 +22,7 @@ use history::standing::Stage;
 use order::ordering::Order;
 use order::superiors::Superiors;
 use refusal::{Layer, Refusal};
+use sessions::session::run_session;
 use std::alloc::Global;
 use std::test::Fail;
 

@@ -2,19 +2,8 @@
 // come of each.
 #![tactic(auto)]
 
-pub mod sessions;
-
 ghost use Rattle.std.specs.Prelude.{◌≡◌, ◌<◌, ◌≤◌, [], length, MatchOption, slice_index_or};
 ghost use Rattle.cases.specs.Cases.{AllHold, AllChecked, AllPrinted, boards};
-ghost use Rattle.cases.specs.Injected.{BoardAnswers};
-ghost use Rattle.cases.specs.Registers.{RegistersAnswer};
-
-use bank::call::{Call, Reply};
-use bank::fault::{BankFault, MakeFault};
-use bank::playing::play;
-use banks::register::register_bank;
-use boardbank::board_bank;
-use std::alloc::Global;
 
 // clk, i2c and lcd: read with the order 0, 1, 2.
 const THREE_DEVICES: [u8; 68] = *b"\
@@ -90,8 +79,8 @@ const BOARDS: [&[u8]; 9] = [
 
 // The board file of a worked case. That the cases hold is proved of every answer that the contract of the reader allows, of
 // every answer that the contract of the check without memory allows, of every answer that the contract of `list` allows, and of
-// those with calls of banks or engines, runs or what-ifs of every answer that the contracts below, or those of `run_session`,
-// `run` and `what_if`, allow.
+// those with calls of banks or engines, runs or what-ifs of every answer that the contracts of `register_answers`,
+// `board_answers`, `run_session`, `run` and `what_if` allow.
 pub fn worked_board(case: usize) -> Option<&'static [u8]>
     ensures bytes { MatchOption result (length boards ≤ «case») (λ bytes. («case» < length boards) × (bytes.now ≡ slice_index_or boards «case» [])) }
     ensures hold { AllHold }
@@ -99,33 +88,6 @@ pub fn worked_board(case: usize) -> Option<&'static [u8]>
     ensures printed { AllPrinted }
 {
     BOARDS.get(case).copied()
-}
-
-// What a register bank with these words answers to calls one after another.
-pub fn register_answers(
-    heap: Global,
-    words: &[u32],
-    calls: &[Call],
-) -> Result<Vec<Result<Reply, BankFault>>, MakeFault>
-    ensures { RegistersAnswer words.now calls.now result }
-{
-    let mut bank = register_bank(heap, words)?;
-    Ok(play(heap, &mut bank, calls)?)
-}
-
-// What the bank of a board with these words and cells answers to calls one after another.
-pub fn board_answers(
-    heap: Global,
-    registers: &[u32],
-    buses: &[u32],
-    quiets: &[u32],
-    cells: Vec<u8>,
-    calls: &[Call],
-) -> Result<Vec<Result<Reply, BankFault>>, MakeFault>
-    ensures { BoardAnswers (record { registers = registers.now; buses = buses.now; quiets = quiets.now; cells = cells.items }) calls.now result }
-{
-    let mut bank = board_bank(heap, registers, buses, quiets, cells)?;
-    Ok(play(heap, &mut bank, calls)?)
 }
 
 #[cfg(test)]

@@ -1,5 +1,5 @@
 -- An attempt, followed from its opening to its close by what the calls promise.
-use Rattle.std.proofs.Common.{◌≡◌, ℕ, Bool, true, false, List, ◌∷◌, refl, ap, sym, ◌∙◌, arith}
+use Rattle.std.proofs.Common.{◌≡◌, ℕ, suc, Bool, true, false, List, ◌∷◌, refl, ap, sym, ◌∙◌, arith}
 use Rattle.std.specs.Prelude.{if◌then◌else◌, Ok, Err, Result}
 use Rattle.bank.specs.Meaning.{Device, piles}
 use Rattle.bank.specs.Laws.{Kind}
@@ -9,7 +9,8 @@ use Rattle.history.specs.declared.answer.Answer.TheVariants.{Opened}
 use Rattle.history.specs.declared.fault.EngineFault.{EngineFault}
 use Rattle.history.specs.declared.fault.EngineFault.TheVariants.{InAttempt}
 use Rattle.history.specs.Attempts.{History, at, under_way, opening}
-use Rattle.history.specs.Rules.{State, shown}
+use Rattle.history.specs.Rules.{State, shown, said, next}
+use Rattle.client.specs.Naps.{after_steps}
 use Rattle.history.specs.Law.{LedTo, Obeys}
 
 -- the opening, by whether an attempt was under way
@@ -43,3 +44,14 @@ module _ {M : Type 0} (kind : Kind M) (superior : ℕ → ℕ → Type 0) (order
       → (piles (shown kind order later) ≡ piles start) × ((h : History) × LedTo kind order h later)
   closed start s later answer obeys (h, led, open_, found) =
       (((obeys.lawful h led).closes refl open_).1 ∙ ap piles found, (at Close (shown kind order s) ∷ h, obeys.leads h led))
+
+-- the rules do not ask which of two orders that are the same
+module _ {M : Type 0} (kind : Kind M) (order now : List ℕ) where
+  pub one_more : (start s later : State M) (k m : ℕ) → m ≡ suc k → now ≡ order → s ≡ after_steps kind order start k → later ≡ next kind now s Step → later ≡ after_steps kind order start m
+  one_more start s later k m more same is becomes = let now_is : later ≡ next kind order (after_steps kind order start k) Step = rw (same, is) at becomes in rw more now_is
+
+  pub closed_so : (s at_rest : State M) → now ≡ order → s ≡ at_rest → (later : State M) → later ≡ next kind now s Close → later ≡ next kind order at_rest Close
+  closed_so s at_rest same is later becomes = rw (same, is) at becomes
+
+  pub said_so : (s at_rest : State M) → now ≡ order → s ≡ at_rest → (answer : Result Answer EngineFault) → answer ≡ said kind now s Close → answer ≡ said kind order at_rest Close
+  said_so s at_rest same is answer says = rw (same, is) at says

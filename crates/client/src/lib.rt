@@ -5,9 +5,9 @@ ghost use Rattle.std.specs.Prelude.{◌≡◌, true, false, Ok, IfOk, MatchResul
 ghost use Rattle.history.specs.declared.answer.Answer.TheVariants.{Closed};
 ghost use Rattle.history.specs.declared.call.Call.TheVariants.{Close};
 ghost use Rattle.history.specs.declared.fault.EngineFault.TheVariants.{InAttempt};
-ghost use Rattle.engine.specs.States.{state, KeepsLaw};
+ghost use Rattle.engine.specs.States.{state, Says, Becomes, KeepsLaw};
 ghost use Rattle.engine.specs.Tickets.{is_open};
-ghost use Rattle.client.specs.Naps.{GivesBack};
+ghost use Rattle.client.specs.Naps.{GivesBack, Napped};
 
 use bank::bank::Bank;
 use engine::engine::Engine;
@@ -19,7 +19,8 @@ use history::outcome::Outcome;
 fn close<B: Bank>(engine: &mut Engine<B>, ticket: Ticket) -> Outcome
     requires { is_open engine.old.standing ≡ true }
     ensures law { KeepsLaw ⟦<B as Bank>⟧ Close engine.old (Ok (Closed result)) engine.new }
-    ensures order { engine.new.order ≡ engine.old.order }
+    ensures answer { Says ⟦<B as Bank>⟧ Close engine.old (Ok (Closed result)) }
+    ensures after { Becomes ⟦<B as Bank>⟧ Close engine.old engine.new }
 {
     match engine.close(ticket) {
         Ok(outcome) => outcome,
@@ -29,6 +30,7 @@ fn close<B: Bank>(engine: &mut Engine<B>, ticket: Ticket) -> Outcome
 
 // Opens an attempt, asks for so many steps, whatever they answer, and closes it. Refused in an attempt, which is then as it was.
 pub fn nap<B: Bank>(engine: &mut Engine<B>, steps: u16) -> Result<Outcome, EngineFault>
+    ensures napped { IfOk result (Napped ⟦<B as Bank>⟧ engine.old engine.new steps) }
     ensures words { IfOk result (λ _. GivesBack ⟦<B as Bank>⟧ engine.old engine.new) }
     ensures refused { MatchResult result (λ _. is_open engine.old.standing ≡ false) (λ fault. (is_open engine.old.standing ≡ true) × (fault ≡ InAttempt)) }
     ensures order { engine.new.order ≡ engine.old.order }

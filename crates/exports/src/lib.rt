@@ -5,6 +5,7 @@ mod runs;
 
 ghost use Rattle.std.specs.Prelude.{◌≡◌, ◌≤◌, length};
 ghost use Rattle.exports.specs.Exports.{Writes, OrderWritten, NumberOf, PlaceOf, Tells};
+ghost use Rattle.exports.specs.Worked.{RefusalsWorked};
 
 use board::board::Board;
 use refusal::Refusal;
@@ -44,7 +45,8 @@ pub extern "C" fn fuldrik_board_order(file: &[u8], places: &mut [u8]) -> u8
 // The number of the refusal of a board file, or 0 where it is not refused.
 #[unsafe(no_mangle)]
 pub extern "C" fn fuldrik_refusal_number(file: &[u8]) -> u8
-    ensures { NumberOf file.now result }
+    ensures number { NumberOf file.now result }
+    ensures worked { RefusalsWorked }
 {
     refusal_of(file).map_or(0, |refusal| refusal.number)
 }
@@ -56,3 +58,6 @@ pub extern "C" fn fuldrik_refusal_place(file: &[u8]) -> u32
 {
     refusal_of(file).map_or(0, |refusal| refusal.place)
 }
+
+#[cfg(test)]
+mod tests;

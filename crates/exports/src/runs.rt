@@ -1,6 +1,7 @@
 // A whole run and a whole what-if for callers in C and Rust. The outcome goes out as five numbers.
 ghost use Rattle.std.specs.Prelude.{◌≡◌, ◌↔◌, ◌<◌, ◌≤◌, ◌++◌, IsTrue, length, drop};
 ghost use Rattle.exports.specs.Runs.{AskTold, OutcomeTold, RunTold, five_numbers, number_of_fault, outcome_in};
+ghost use Rattle.exports.specs.Worked.{RunsWorked};
 
 use history::outcome::{Outcome, Values};
 use lines::report::Report;
@@ -90,6 +91,7 @@ fn run_outcome(ran: Result<Report, RunFault>) -> Result<Outcome, RunFault>
 pub extern "C" fn fuldrik_run(heap: Global, file: &[u8], sheet: &[u8], values: &mut [u16]) -> u8
     ensures short { length values.old < 5 → (result ≡ 254) × (values.new ≡ values.old) }
     ensures told { 5 ≤ length values.old → RunTold file.now sheet.now values.old values.new result }
+    ensures worked { RunsWorked }
 {
     if !has_room(values) {
         return NO_ROOM;

@@ -4,6 +4,7 @@ use Rattle.history.specs.Attempts.{History}
 use Rattle.history.specs.Law.{LedTo}
 use Rattle.engine.specs.States.{state}
 use Rattle.engine.specs.Tickets.{is_open}
+use Rattle.client.specs.Naps.{slept}
 use Rattle.client.proofs.Naps.{Since}
 use Rattle.client.proofs.nap.Given as goal
 
@@ -14,6 +15,7 @@ invariant-loop g l =
     let order = devices l.fn.engine.order in
     record {
       same : l.engine.order ≡ l.fn.engine.order;
+      gone : state g.B.Bank l.engine ≡ slept g.B.Bank l.fn.engine l.counter;
       opened : is_open l.engine.standing ≡ true;
       since : (h : History) → LedTo kind order h (state g.B.Bank l.fn.engine) → Since kind (Superior l.fn.engine.order.superiors) order (kind.devices (g.B.Bank.model l.fn.engine.bank)) (state g.B.Bank l.engine);
     }

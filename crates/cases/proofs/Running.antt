@@ -28,7 +28,7 @@ use Rattle.run.specs.Running.{Runs, Ran}
 use Rattle.run.specs.Asking.{Asks, IsLevel, cell}
 use Rattle.run.proofs.Exact.{files_unfit, files_once, asking_unfit}
 use Rattle.runlisting.specs.Printing.{ended, printed, report_lines}
-use Rattle.cases.specs.Cases.{HasSlept, HasStayed, HasAsked}
+use Rattle.cases.specs.Holding.{HasRun, IsRefusedSo, HasAsked}
 
 -- the outcome in the answer to a close
 abbrev outcome_in : Result Answer EngineFault → Outcome
@@ -81,17 +81,17 @@ module _ (bs sheet : List ℕ) where
     counts : (report : Report) → Ran bs sheet report → report.attempt.calls ≡ run_count order
     counts report ran = ran.attempt.count ∙ ap (λ (os : List ℕ). 1 + length (run_calls board_kind os (board_model (parts bs sheet)))) (same_order report ran)
 
-    pub sleeps_so : (calls : ℕ) → run_count order ≡ calls → (shown : List ℕ) → run_text order ≡ shown → (r : Result Report RunFault) → Runs bs sheet r → HasSlept calls shown r
-    sleeps_so calls count shown same (Ok report) (_, ran) = (counts report ran ∙ count, prints report ran ∙ same, refl)
-    sleeps_so calls count shown same (Err (Program fault)) refused = absurd (files_unfit bs sheet fault refused fit)
-    sleeps_so calls count shown same (Err Memory) _ = tt
+    pub runs_so : (calls : ℕ) → run_count order ≡ calls → (shown : List ℕ) → run_text order ≡ shown → (r : Result Report RunFault) → Runs bs sheet r → HasRun calls shown r
+    runs_so calls count shown same (Ok report) (_, ran) = (counts report ran ∙ count, prints report ran ∙ same, refl)
+    runs_so calls count shown same (Err (Program fault)) refused = absurd (files_unfit bs sheet fault refused fit)
+    runs_so calls count shown same (Err Memory) _ = tt
 
-  pub stays_so : (fault : ProgramFault) → RefusesFiles bs sheet fault → (shown : List ℕ) → printed (Err (Program fault)) ≡ shown
-      → (r : Result Report RunFault) → Runs bs sheet r → HasStayed fault shown r
-  stays_so fault refused shown same (Ok report) (fits, _) = absurd (files_unfit bs sheet fault refused fits)
-  stays_so fault refused shown same (Err (Program other)) so =
+  pub refused_so : (fault : ProgramFault) → RefusesFiles bs sheet fault → (shown : List ℕ) → printed (Err (Program fault)) ≡ shown
+      → (r : Result Report RunFault) → Runs bs sheet r → IsRefusedSo fault shown r
+  refused_so fault refused shown same (Ok report) (fits, _) = absurd (files_unfit bs sheet fault refused fits)
+  refused_so fault refused shown same (Err (Program other)) so =
       let e : Err (Program other) ≡ Err (Program fault) = ap (λ f. Err (Program f)) (files_once bs sheet other fault so refused) in (e, ap printed e ∙ same, refl)
-  stays_so fault refused shown same (Err Memory) fits = absurd (files_unfit bs sheet fault refused fits)
+  refused_so fault refused shown same (Err Memory) fits = absurd (files_unfit bs sheet fault refused fits)
 
 -- a what-if whose changed sheet has this outcome
 module _ (bs sheet : List ℕ) (order : List ℕ) (right : Right bs) (is : IsTheOrder (device_count bs) (SuperiorIn bs) order) (device level byte : ℕ)

@@ -1,8 +1,8 @@
 // Calls of an engine over the bank of a board.
 ghost use Rattle.std.specs.Prelude.{◌≡◌};
 ghost use Rattle.order.specs.Answers.{devices};
-ghost use Rattle.cases.specs.Sessions.{RunAnswers, SessionAnswers, bank_unmade, engine_unmade};
-ghost use Rattle.cases.specs.declared.sessions.SessionFault.TheVariants.{Memory as Want};
+ghost use Rattle.sessions.specs.Sessions.{RunAnswers, SessionAnswers, bank_unmade, engine_unmade};
+ghost use Rattle.sessions.specs.declared.session.SessionFault.TheVariants.{Memory as Want};
 
 use bank::bank::Bank;
 use bank::fault::{BankFault, MakeFault as BankMakeFault};

@@ -14,9 +14,9 @@ use Rattle.attempt.specs.Runs.{just_made}
 use Rattle.engine.specs.Making.{Unready}
 use Rattle.engine.specs.Tickets.{Owes}
 use Rattle.boardbank.specs.Boards.{Parts, board_kind, board_model, total_devices}
-use Rattle.cases.specs.declared.sessions.Session.{Session}
-use Rattle.cases.specs.declared.sessions.SessionFault.{SessionFault}
-use Rattle.cases.specs.declared.sessions.SessionFault.TheVariants.{Bank, Engine, Memory}
+use Rattle.sessions.specs.declared.session.Session.{Session}
+use Rattle.sessions.specs.declared.session.SessionFault.{SessionFault}
+use Rattle.sessions.specs.declared.session.SessionFault.TheVariants.{Bank, Engine, Memory}
 
 -- what calls of an engine of this order over a bank that stands for m answer; no refusal of a bank comes, since the bank is there
 abbrev pub RunAnswers : {M : Type 0} → Kind M → M → List ℕ → List Call → Result Session SessionFault → Type 0
