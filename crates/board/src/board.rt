@@ -9,8 +9,8 @@ ghost use Rattle.boardfile.specs.Contents.{AsciiNames, TellApart};
 use boardfile::device::{Device, Kinds, Link};
 use order::ordering::Order;
 
-// The board that a board file describes, which only `Board::read` makes. Its devices are numbered from 0: first those in
-// registers, then those on the bus, then the quiet ones.
+// The board that a board file describes, which only `Board::read` and `Checked::board` make. Its devices are numbered from 0: first
+// those in registers, then those on the bus, then the quiet ones.
 #[derive(Drop)]
 pub struct Board {
     devices: Vec<Device>,
