@@ -1,5 +1,5 @@
 -- Injected errnos: the words are those below, and the laws are kept within any limit.
-use Rattle.std.proofs.Common.{◌≡◌, ℕ, true, zero, suc, ◌+◌, ◌-◌, ◌*◌, ◌<◌, ◌≤◌, ◌^◌, List, [], ◌∷◌, ◌++◌, cond, eqb, length, get_or, All, refl, sym, ap, ◌∙◌, ◌⊎◌, inl, inr, arith}
+use Rattle.std.proofs.Common.{◌≡◌, ℕ, true, zero, suc, ◌+◌, ◌-◌, ◌*◌, ◌<◌, ◌≤◌, ◌^◌, List, [], ◌∷◌, ◌++◌, cond, eqb, length, get_or, set, drop, All, refl, sym, ap, ◌∙◌, ◌⊎◌, inl, inr, arith}
 use Rattle.std.proofs.lemmas.List.{get_or_append_left, get_or_past}
 use Rattle.std.proofs.lemmas.Bool.{cases_lt}
 use Rattle.std.proofs.lemmas.List.Elements.{All-from_get_or, All-weaker}
@@ -90,23 +90,28 @@ module _ {M : Type 0} (limit : ℕ) (below : Kind M) (laws : Laws limit below) w
             (λ d h. let inside : d < length ds = omega (arith, n) in rw (injected_device m.1 ds d inside) (overlaid_fits limit m.1 d (device ds d) s.1 (under.errnos d absent inside)));
       }
 
+  -- what alters a pile below alters it as it is shown
+  injected_altered : (m : M × List ℕ) (d : ℕ) (f : List ℕ → List ℕ) (x : M) → piles (below.devices x) ≡ set (piles (below.devices m.0)) d (f (pile (below.devices m.0) d))
+      → piles (shown (x, m.1)) ≡ set (piles (shown m)) d (f (pile (shown m) d))
+  injected_altered m d f x e = rw (injected_piles m.1 (below.devices x), injected_piles m.1 (below.devices m.0), injected_pile m.1 (below.devices m.0) d) e
+
   injected_lowering : (m : M × List ℕ) (d : ℕ) → below.sound m.0 × AreCells limit m.1 → is_lowered (shown m) d ≡ true
       → (below.sound (below.lowered m.0 d) × AreCells limit m.1) × GainsWord (shown m) d (shown (below.lowered m.0 d, m.1))
   injected_lowering m d s t =
-      let under = laws.lowering m.0 d s.0 (injected_free m.1 (below.devices m.0) d t) in
-      ((under.0, s.1), (under.1.0, rw (injected_piles m.1 (below.devices (below.lowered m.0 d)), injected_piles m.1 (below.devices m.0), injected_pile m.1 (below.devices m.0) d) under.1.1))
+      let (sound, (w, e)) = laws.lowering m.0 d s.0 (injected_free m.1 (below.devices m.0) d t) in
+      ((sound, s.1), (w, injected_altered m d (λ p. w ∷ p) _ e))
 
   injected_raising : (m : M × List ℕ) (d : ℕ) → below.sound m.0 × AreCells limit m.1 → is_raised (shown m) d ≡ true
       → (below.sound (below.raised m.0 d) × AreCells limit m.1) × LosesWord (shown m) d (shown (below.raised m.0 d, m.1))
   injected_raising m d s t =
-      let under = laws.raising m.0 d s.0 (sym (injected_is_raised m.1 (below.devices m.0) d) ∙ t) in
-      ((under.0, s.1), rw (injected_piles m.1 (below.devices (below.raised m.0 d)), injected_piles m.1 (below.devices m.0), injected_pile m.1 (below.devices m.0) d) under.1)
+      let (sound, e) = laws.raising m.0 d s.0 (sym (injected_is_raised m.1 (below.devices m.0) d) ∙ t) in
+      ((sound, s.1), injected_altered m d (λ p. drop 1 p) _ e)
 
   injected_writing : (m : M × List ℕ) (d w : ℕ) → below.sound m.0 × AreCells limit m.1 → w < 2 ^ 32 → is_put (shown m) d ≡ true
       → (below.sound (below.written m.0 d w) × AreCells limit m.1) × HoldsWord (shown m) d w (shown (below.written m.0 d w, m.1))
   injected_writing m d w s f t =
-      let under = laws.writing m.0 d w s.0 f (sym (injected_is_put m.1 (below.devices m.0) d) ∙ t) in
-      ((under.0, s.1), rw (injected_piles m.1 (below.devices (below.written m.0 d w)), injected_piles m.1 (below.devices m.0)) under.1)
+      let (sound, e) = laws.writing m.0 d w s.0 f (sym (injected_is_put m.1 (below.devices m.0) d) ∙ t) in
+      ((sound, s.1), injected_altered m d (λ _. w ∷ []) _ e)
 
   pub injector_lawful : Laws limit (injector_kind limit below)
   injector_lawful = record { means = injected_means; lowering = injected_lowering; raising = injected_raising; writing = injected_writing }

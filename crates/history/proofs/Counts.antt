@@ -25,7 +25,7 @@ use Rattle.history.proofs.Refusals.{by_device}
 use Rattle.history.proofs.Unwinding.{descent_more}
 use Rattle.history.proofs.Standings.{stands_in, slept_now}
 use Rattle.history.proofs.Transitions.{sum_after}
-use Rattle.history.proofs.Effects.{Effect, lowers, raises, closes, puts, rests, effect, idle}
+use Rattle.history.proofs.Effects.{effect, idle}
 use Rattle.history.proofs.Facts.{Facts, facts, told_so, sum_later, is_awake, none_lowered}
 
 module _ (order : List ℕ) where
@@ -67,14 +67,7 @@ module _ (order : List ℕ) where
   module _ (now : List Device) where
     -- a call lowers only where the engine goes down
     no_lowering : (call : Call) (st : Standing) → (stage_of st ≡ stage.GoingDown → ⊥) → is_lowering (answer_to order st call now) ≡ 0
-    no_lowering call st n = go (answer_to order st call now) (effect order now call st)
-      where
-        go : (a : Result Answer EngineFault) → Effect order now call st a → is_lowering a ≡ 0
-        go a (lowers c s z e) = absurd (n (ap stage_of s))
-        go a (raises end c s e) = ap is_lowering e
-        go a (closes end c s e) = ap is_lowering e
-        go a (puts d w c s l e) = ap is_lowering e
-        go a (rests e) = (idle a e 0).1
+    no_lowering call st n = grind (arith, effect order now call st, idle (answer_to order st call now))
 
     abbrev turned_then : Call → Option ℕ → Option Outcome → Bool → Option Outcome
     turned_then call kept turned down = or_else turned (if is_step call && not down then turning order kept now else None)

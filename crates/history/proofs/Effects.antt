@@ -96,14 +96,7 @@ module _ {M : Type 0} (kind : Kind M) (order : List ℕ) where
   -- only a step, a close and a put alter it
   pub stays_still : (call : Call) (st : Standing) (now : List Device) (m : M) → call ≢ Step → call ≢ Close → answer_to order st call now ≢ Ok Written
       → model_after kind order call (answer_to order st call now) m ≡ m
-  stays_still call st now m a b n = go (effect order now call st)
-    where
-      go : Effect order now call st (answer_to order st call now) → model_after kind order call (answer_to order st call now) m ≡ m
-      go (lowers c s z e) = absurd (a c)
-      go (raises end c s e) = absurd (a c)
-      go (closes end c s e) = absurd (b c)
-      go (puts d w c s l e) = absurd (n e)
-      go (rests e) = stays call (answer_to order st call now) m e
+  stays_still call st now m a b n = grind (arith, effect order now call st, stays call (answer_to order st call now) m)
 
   -- a refusal alters nothing
   pub unaltered : (s : State M) (call : Call) (fault : EngineFault) → said kind order s call ≡ Err fault → next kind order s call ≡ s

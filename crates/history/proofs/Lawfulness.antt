@@ -16,7 +16,7 @@ use Rattle.history.specs.declared.standing.Standing.{Standing}
 use Rattle.history.specs.declared.standing.Standing.TheVariants.{Awake, GoingDown, ComingUp}
 use Rattle.history.specs.declared.standing.Stage.TheVariants as stage
 use Rattle.history.specs.Schedule.{device_of, full, level_sum}
-use Rattle.history.specs.Attempts.{at, History, goes_on, under_way, opening, descent, next_device, outcome, stage_of}
+use Rattle.history.specs.Attempts.{at, History, under_way, opening, descent, next_device, outcome, stage_of}
 use Rattle.history.specs.Rules.{State, shown, said, next, answer_to, step_answer, model_after}
 use Rattle.history.specs.Law.{OneLower, OneHigher, IsAt, Stopped, lowerings, LedTo, Lawful, FitsCall, Obeys}
 use Rattle.history.specs.Keeping.{InRange}
@@ -93,15 +93,9 @@ module _ {M : Type 0} {limit : ℕ} (kind : Kind M) (laws : Laws limit kind) (su
         )
 
     add_up : answer ≡ Ok (Stepped Lowered) → level_sum (shown kind order later) ≡ lowerings order (at call now ∷ h)
-    add_up e = go (effect order now call s.standing)
-      where
-        go : Effect order now call s.standing answer → level_sum (shown kind order later) ≡ lowerings order (at call now ∷ h)
-        go (lowers c st z q) =
-            counts_on kind laws order precedes.permutes some h s f call fits (ap stage_of st) (ap (λ (x : Call). goes_on x true) c)
-        go (raises end c st q) = absurd (cc (e, q))
-        go (closes end c n q) = absurd (cc (e, q))
-        go (puts d w c st l q) = absurd (cc (e, q))
-        go (rests q) = absurd (cc (q, ap alters e))
+    add_up e =
+        let counted = counts_on kind laws order precedes.permutes some h s f call fits in
+        grind (arith, effect order now call s.standing, ap alters e, counted)
 
     close : call ≡ Close → under_way h ≡ true
         → (answer ≡ Ok (Closed (outcome order (descent order h) now))) × (piles (shown kind order later) ≡ piles (opening h))

@@ -22,7 +22,7 @@ use Rattle.history.specs.Journals.{Notes, NotesUp, AreRaisings, way}
 use Rattle.history.proofs.Moves.{Raising, raising}
 use Rattle.history.proofs.Phases.{phase_down, phase_up}
 use Rattle.history.proofs.Standings.{is_open}
-use Rattle.history.proofs.Effects.{Effect, lowers, raises, closes, puts, rests, alters, effect, model_told}
+use Rattle.history.proofs.Effects.{alters, effect, model_told}
 use Rattle.history.proofs.Facts.{Facts, facts, range_at, tells_at}
 use Rattle.history.proofs.Ways.{hindering, unnoted, mirrors, mirrors_close}
 
@@ -59,34 +59,13 @@ module _ {M : Type 0} {limit : ℕ} (kind : Kind M) (laws : Laws limit kind) (or
 
     -- where it stood, by the answer
     was_down : answer ≡ Ok (Stepped Lowered) → s.standing ≡ GoingDown None
-    was_down a = go (effect order now call s.standing)
-      where
-        go : Effect order now call s.standing answer → s.standing ≡ GoingDown None
-        go (lowers c st z e) = st
-        go (raises end c st e) = absurd (cc)
-        go (closes end c n e) = absurd (cc)
-        go (puts d w c st l e) = absurd (cc)
-        go (rests e) = absurd (cc (ap alters a))
+    was_down a = grind (arith, effect order now call s.standing, ap alters a)
 
     was_up : answer ≡ Ok (Stepped Raised) → (end : Outcome) × (s.standing ≡ ComingUp end)
-    was_up a = go (effect order now call s.standing)
-      where
-        go : Effect order now call s.standing answer → (end : Outcome) × (s.standing ≡ ComingUp end)
-        go (lowers c st z e) = absurd (cc)
-        go (raises end c st e) = (end, st)
-        go (closes end c n e) = absurd (cc)
-        go (puts d w c st l e) = absurd (cc)
-        go (rests e) = absurd (cc (ap alters a))
+    was_up a = grind (arith, effect order now call s.standing, ap alters a)
 
     was_open : (end : Outcome) → answer ≡ Ok (Closed end) → s.standing ≢ Awake
-    was_open end a = go (effect order now call s.standing)
-      where
-        go : Effect order now call s.standing answer → s.standing ≢ Awake
-        go (lowers c st z e) = absurd (cc)
-        go (raises end c st e) = absurd (cc)
-        go (closes end c n e) = n
-        go (puts d w c st l e) = absurd (cc)
-        go (rests e) = absurd (cc (ap alters a))
+    was_open end a = grind (arith, effect order now call s.standing, ap alters a)
 
     -- the raising of the last device lowered
     raised : answer ≡ Ok (Stepped Raised) → (x : ℕ) × OneHigher x now (shown kind order later) × NotesUp x now s.journal later.journal

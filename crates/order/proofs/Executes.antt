@@ -21,7 +21,7 @@ decides_implies : {P Q : Type 0} → (x y : Bool) → Decides x P → Decides y 
 decides_implies true y p q = ((λ e _. q.0 e), (λ f. q.1 (f (p.0 refl))))
 decides_implies false y p q = ((λ _ h. absurd (true≢false (sym (p.1 h)))), (λ _. refl))
 
-all_decides : (test : ℕ → Bool) (P : ℕ → Type 0) → ((k : ℕ) → Decides (test k) (P k)) → (n : ℕ) → Decides (all_below n test) ((k : ℕ) → k < n → P k)
+pub all_decides : (test : ℕ → Bool) (P : ℕ → Type 0) → ((k : ℕ) → Decides (test k) (P k)) → (n : ℕ) → Decides (all_below n test) ((k : ℕ) → k < n → P k)
 all_decides test P each n = Decides-below_and test P (λ m. all_below m test) each refl (λ _. refl) n
 
 -- the least number below n that passes

@@ -1,7 +1,7 @@
 // The order of a table's devices.
 mod placing;
 
-ghost use Rattle.std.specs.Prelude.{◌≡◌, ℕ, ◌<◌, length, take};
+ghost use Rattle.std.specs.Prelude.{◌≡◌, length, take};
 ghost use Rattle.order.specs.Orders.{Inside, Once, SuperiorsEarlier, NoneLess};
 ghost use Rattle.order.specs.Tables.{Above};
 

@@ -2,7 +2,7 @@
 mod making;
 mod search;
 
-ghost use Rattle.std.specs.Prelude.{◌≡◌, ℕ, ◌<◌, ◌≤◌, length};
+ghost use Rattle.std.specs.Prelude.{◌≡◌, ◌≤◌, length};
 ghost use Rattle.order.specs.Tables.{Known};
 
 use crate::set::DeviceSet;

@@ -1,7 +1,7 @@
 // How the trailer is read.
-ghost use Rattle.std.specs.Prelude.{◌≡◌, ◌+◌, ◌*◌, ◌≤◌, length, Decides, MatchResult};
+ghost use Rattle.std.specs.Prelude.{◌≡◌, ◌+◌, ◌*◌, ◌≤◌, Decides, MatchResult};
 ghost use Rattle.boardfile.specs.Layout.{trailer, two_bytes};
-ghost use Rattle.boardfile.specs.Rules.{Sized, Marked, Counted, Tabled, Framed};
+ghost use Rattle.boardfile.specs.Rules.{Sized, Marked, Counted, Framed};
 ghost use Rattle.frame.specs.Reads.{CountsOf, Room, FrameOf, Unframed};
 
 use crate::frame::Frame;
