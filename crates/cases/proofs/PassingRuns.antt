@@ -7,4 +7,4 @@ use Rattle.cases.proofs.Showing.{Passes}
 
 pub of_runs_pass : AllByRecursion Passes of_runs
 unfolding digits
-of_runs_pass = ((refl, refl, refl, refl), ((refl, refl, refl, refl), ((refl, refl, refl, refl), ((refl, refl, refl, refl), ((refl, refl), (((0 ∷ 1 ∷ 2 ∷ [], refl, refl), refl), ((refl, refl), ((refl, refl, lit< tt, (lit≤ tt, lit≤ tt), refl, refl), ((refl, refl, lit< tt, (lit≤ tt, lit≤ tt), refl, refl), tt)))))))))
+of_runs_pass = ((refl, refl, refl, refl), ((refl, refl, refl, refl), ((refl, refl, refl, refl), ((refl, refl, refl, refl), ((refl, refl), (((0 ∷ 1 ∷ 2 ∷ [], refl, refl), refl), ((refl, refl), ((refl, refl, lit< tt, (lit≤ tt, lit≤ tt), refl, refl), ((refl, refl, lit< tt, (lit≤ tt, lit≤ tt), refl, refl), (refl, ((0 ∷ 1 ∷ 2 ∷ [], refl, refl), ((0 ∷ 1 ∷ 2 ∷ [], refl, refl, lit≤ tt, refl), ((0 ∷ 1 ∷ 2 ∷ [], refl, refl, lit≤ tt, refl), ((0 ∷ 1 ∷ 2 ∷ [], refl, refl, lit< tt, refl), ((0 ∷ 1 ∷ 2 ∷ [], refl, refl, lit< tt, refl), tt)))))))))))))))

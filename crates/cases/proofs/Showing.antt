@@ -1,5 +1,5 @@
 -- A worked case holds where the tests, executed, come to what is expected, and the lines, computed, are the expected text.
-use Rattle.std.proofs.Common.{◌≡◌, ◌*◌, ◌<◌, ◌≤◌, ◌==◌, ℕ, zero, suc, Bool, true, false, Vec, arith, length, inl, inr, List, [], ◌∷◌, ◌++◌, map, set, codes, filter, get_or, Ok, Err, Result, String, ◌∙◌, subst, ap}
+use Rattle.std.proofs.Common.{◌≡◌, ◌*◌, ◌<◌, ◌≤◌, ◌==◌, ◌&&◌, leb, ℕ, zero, suc, Bool, true, false, Vec, arith, length, inl, inr, List, [], ◌∷◌, ◌++◌, map, set, codes, filter, get_or, Ok, Err, Result, String, ◌∙◌, subst, ap}
 use Rattle.std.specs.List.{AllByRecursion, flat_map, range_with_len}
 use Rattle.std.specs.declared.alloc.Global.{Global}
 use Rattle.std.proofs.lemmas.Bool.Decides.{Decides-like, same_from_decides}
@@ -24,7 +24,7 @@ use Rattle.listing.specs.declared.printing.ListFault.{ListFault}
 use Rattle.listing.specs.declared.printing.ListFault.TheVariants.{Refused as IsRefused, Memory as NoMemory}
 use Rattle.listing.specs.Lines.{lines}
 use Rattle.listing.specs.Printing.{Lists, printed as bytes_printed}
-use Rattle.cases.specs.Case.{Case, Contents, reads, refuses, registers, whole, plays, runs, is_refused, asks}
+use Rattle.cases.specs.Case.{Case, Contents, reads, refuses, registers, whole, plays, runs, is_refused, asks, asks_wrongly}
 use Rattle.cases.specs.Holding.{HasAnswered, HasPlayed, HasRead, HasOrder, HasPrinted, Holds, IsChecked, IsPrinted}
 use Rattle.bank.specs.declared.call.Call.{Call}
 use Rattle.bank.specs.declared.call.Reply.{Reply}
@@ -50,7 +50,8 @@ use Rattle.program.specs.declared.fault.ProgramFault.{ProgramFault}
 use Rattle.program.specs.declared.fault.ProgramFault.TheVariants.{Board as OfBoard, Sheet, Buffer, NoDevice, NoLevel, Engine}
 use Rattle.program.specs.declared.fault.RunFault.TheVariants.{Program}
 use Rattle.run.specs.Files.{RefusesFiles, device_cells}
-use Rattle.run.specs.Asking.{cell}
+use Rattle.run.specs.Asking.{IsLevel, RefusesAsking, cell}
+use Rattle.run.proofs.Exact.{exact_answer}
 use Rattle.runlisting.specs.Printing.{printed as run_printed}
 use Rattle.cases.proofs.Running.{run_text, run_count, run_outcome, runs_so, refused_so, asks_so}
 use Rattle.std.proofs.lemmas.Bool.Decides.{nat_tests}
@@ -151,6 +152,30 @@ files_refused bs sheet (NoDevice d) none = none
 files_refused bs sheet NoLevel none = none
 files_refused bs sheet (Engine fault calls) none = none
 
+-- the what-if is refused so, as far as is computed
+abbrev ComesToNoAnswer : List ℕ → List ℕ → ℕ → ℕ → ProgramFault → Type 0
+ComesToNoAnswer bs sheet device level (OfBoard fault) = ComesToRefusal bs sheet (OfBoard fault)
+ComesToNoAnswer bs sheet device level Sheet = ComesToRefusal bs sheet Sheet
+ComesToNoAnswer bs sheet device level Buffer = ⊥
+ComesToNoAnswer bs sheet device level (NoDevice d) =
+    (order : List ℕ) × (outcome bs ≡ Ok order) × (length sheet ≡ device_cells * device_count bs) × (device_count bs ≤ device) × (d ≡ device)
+ComesToNoAnswer bs sheet device level NoLevel =
+    (order : List ℕ) × (outcome bs ≡ Ok order) × (length sheet ≡ device_cells * device_count bs) × (device < device_count bs) × ((leb 1 level && leb level 4) ≡ false)
+ComesToNoAnswer bs sheet device level (Engine fault calls) = ⊥
+
+no_level : (level : ℕ) → (leb 1 level && leb level 4) ≡ false → IsLevel level → ⊥
+no_level level e is = let least = is.least in let most = is.most in grind (arith, nat_tests)
+
+what_if_refused : (bs sheet : List ℕ) (device level : ℕ) (fault : ProgramFault) → ComesToNoAnswer bs sheet device level fault → RefusesAsking bs sheet device level fault
+what_if_refused bs sheet device level (OfBoard fault) e = files_refused bs sheet (OfBoard fault) e
+what_if_refused bs sheet device level Sheet e = files_refused bs sheet Sheet e
+what_if_refused bs sheet device level Buffer none = none
+what_if_refused bs sheet device level (NoDevice d) (order, e, long, past, same) =
+    (record { right = (subst (IsRight bs) e (outcome_right bs)).0; cells = long }, past, same)
+what_if_refused bs sheet device level NoLevel (order, e, long, known, other) =
+    (record { right = (subst (IsRight bs) e (outcome_right bs)).0; cells = long }, known, no_level level other)
+what_if_refused bs sheet device level (Engine fault calls) none = none
+
 -- what is computed for a case is what is expected
 abbrev pub Passes : Case → Type 0
 Passes (reads bytes expected shown) = (outcome bytes ≡ Ok expected.order) × (said bytes expected.order ≡ expected) × (printed bytes expected.order ≡ shown)
@@ -169,6 +194,7 @@ Passes (asks bytes sheet order device level byte outcome') =
     (outcome bytes ≡ Ok order) × (length sheet ≡ device_cells * device_count bytes) × (device < device_count bytes) × ((1 ≤ level) × (level ≤ 4))
     × (length (set sheet (cell device level) byte) ≡ device_cells * device_count bytes) × (run_outcome bytes (set sheet (cell device level) byte) order ≡ outcome')
 Passes (is_refused bytes sheet fault shown) = ComesToRefusal bytes sheet fault × (run_printed (Err (Program fault)) ≡ shown)
+Passes (asks_wrongly bytes sheet device level byte fault) = ComesToNoAnswer bytes sheet device level fault
 Passes other = Holds other
 
 -- devices that pass the test are no reason to refuse an engine
@@ -211,6 +237,7 @@ holds (asks bytes sheet order device level byte outcome') (e, long, known, (leas
     let right = subst (IsRight bytes) e (outcome_right bytes) in
     asks_so bytes sheet order right.0 right.1 device level byte long known (record { least = least; most = most }) still outcome' same
 holds (is_refused bytes sheet fault shown) (is, same) = refused_so bytes sheet fault (files_refused bytes sheet fault is) shown same
+holds (asks_wrongly bytes sheet device level byte fault) is = λ r answer. ((exact_answer bytes sheet device level byte r answer).refuses fault).1 (what_if_refused bytes sheet device level fault is)
 holds other same = same
 
 pub is_checked : (c : Case) → Passes c → IsChecked c

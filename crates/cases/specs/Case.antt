@@ -65,6 +65,8 @@ pub data Case : Type 0 where
   is_refused : List ℕ → List ℕ → ProgramFault → List ℕ → Case
   -- a what-if of these files, of which the board has this order, of this device and level and with this byte, has this outcome
   asks : List ℕ → List ℕ → List ℕ → ℕ → ℕ → ℕ → Outcome → Case
+  -- and one of this device and level and with this byte is refused so
+  asks_wrongly : List ℕ → List ℕ → ℕ → ℕ → ℕ → ProgramFault → Case
   -- this is the line of a refusal
   tells : ProgramFault → List ℕ → Case
   -- a fault of a run that comes up from below is this one

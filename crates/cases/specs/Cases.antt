@@ -9,10 +9,10 @@ use Rattle.history.specs.declared.standing.Stage.TheVariants as stage
 use Rattle.cases.specs.Engines.{three_parts, one_quiet, alarm_first, alarm_first_answers, by_lcd, one_sleeps, one_sleeps_answers, one_sleeps_journal, one_wakes_journal, slept_alone, busy, busy_answers, busy_journal, refusing, refusing_answers, refusing_journal, ends}
 use Rattle.cases.specs.Boards.{three_devices, four_devices, short, later_edition, no_devices, near_table, same_names, self_link, circle, one_device, busy_device}
 use Rattle.cases.specs.Files.{i2c_refuses, i2c_refuses_text, d_refuses, d_refuses_text, no_faults, one_sleeps_text, busy_text, short_sheet}
-use Rattle.program.specs.declared.fault.ProgramFault.TheVariants.{Board as OfBoard, Sheet}
+use Rattle.program.specs.declared.fault.ProgramFault.TheVariants.{Board as OfBoard, Sheet, NoDevice, NoLevel}
 use Rattle.history.specs.declared.outcome.Outcome.TheVariants as outcome
 use Rattle.history.specs.declared.phase.Phase.TheVariants.{Prepare}
-use Rattle.cases.specs.Case.{Case, reads, refuses, registers, whole, plays, runs, is_refused, asks}
+use Rattle.cases.specs.Case.{Case, reads, refuses, registers, whole, plays, runs, is_refused, asks, asks_wrongly}
 use Rattle.cases.specs.Holding.{Holds, IsChecked, IsPrinted}
 use Rattle.cases.specs.Attempts.{of_attempts}
 use Rattle.cases.specs.Limits.{wrong_trailers, wrong_records, right_files}
@@ -89,6 +89,13 @@ of_runs =
     ∷ is_refused short [] (OfBoard Size) (codes "! 3 1 0\n")
     ∷ asks three_devices i2c_refuses (0 ∷ 1 ∷ 2 ∷ []) 1 2 0 (outcome.Slept None 12)
     ∷ asks three_devices i2c_refuses (0 ∷ 1 ∷ 2 ∷ []) 2 1 7 (outcome.Fault 7 2 Prepare 2)
+    -- the board is tested first, then the sheet, the device and the level
+    ∷ asks_wrongly circle [] 3 0 7 (OfBoard (Circle 0))
+    ∷ asks_wrongly three_devices short_sheet 3 0 7 Sheet
+    ∷ asks_wrongly three_devices i2c_refuses 3 0 7 (NoDevice 3)
+    ∷ asks_wrongly three_devices i2c_refuses 255 1 7 (NoDevice 255)
+    ∷ asks_wrongly three_devices i2c_refuses 2 0 7 NoLevel
+    ∷ asks_wrongly three_devices i2c_refuses 2 5 7 NoLevel
     ∷ []
 
 -- the list, by what its cases are of

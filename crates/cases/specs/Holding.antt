@@ -41,7 +41,7 @@ use Rattle.runlisting.specs.declared.printing.Ending.TheVariants.{Ran, Refused a
 use Rattle.runlisting.specs.Printing.{printed as run_printed, end_of}
 use Rattle.history.specs.Numbers.{outcome_values, step_number, alarm_number, phase_number, direction_sign}
 use Rattle.lines.specs.Lines.{entry_line, outcome_line}
-use Rattle.cases.specs.Case.{Case, Contents, contents, reads, refuses, registers, whole, plays, runs, is_refused, asks, tells, comes_up, writes_entry, writes_outcome, values_outcome, numbers_step, numbers_alarm, numbers_phase, signs}
+use Rattle.cases.specs.Case.{Case, Contents, contents, reads, refuses, registers, whole, plays, runs, is_refused, asks, asks_wrongly, tells, comes_up, writes_entry, writes_outcome, values_outcome, numbers_step, numbers_alarm, numbers_phase, signs}
 
 -- a board with these contents, or want of memory
 abbrev pub HasRead : Contents → Result Board ReadFault → Type 0
@@ -89,6 +89,7 @@ Holds (plays parts order calls answers journal stage) = (r : Result Session Sess
 Holds (runs board sheet order calls shown) = (ran : Result Report RunFault) → Runs board sheet ran → HasRun calls shown ran
 Holds (is_refused board sheet fault shown) = (ran : Result Report RunFault) → Runs board sheet ran → IsRefusedSo fault shown ran
 Holds (asks board sheet order device level byte outcome) = (r : Result Outcome RunFault) → Asks board sheet device level byte r → HasAsked outcome r
+Holds (asks_wrongly board sheet device level byte fault) = (r : Result Outcome RunFault) → Asks board sheet device level byte r → r ≡ Err (Program fault)
 Holds (tells fault shown) = refusal_line (run_told fault) ≡ shown
 Holds (comes_up found fault) = found ≡ fault
 Holds (writes_entry devices entry shown) = entry_line devices entry ≡ shown
