@@ -24,7 +24,7 @@ pub trait Bank {
     // What a bank of this kind shows, does and keeps.
     ghost kind: { Kind Model };
 
-    // The number of devices.
+    // A number is a device's where it is below this count.
     fn count(&self) -> u8
         ensures { result ≡ length (kind.devices (model self.now)) };
 

@@ -1,6 +1,5 @@
 // The calls of a bank as values.
 
-// A call.
 #[derive(Clone, Copy, PartialEq, Eq, Debug)]
 pub enum Call {
     Count,

@@ -7,7 +7,6 @@ pub const MOST_DEVICES: usize = 64;
 
 pub const MOST_LINKS: usize = 256;
 
-// The sizes of records.
 pub const DEVICE_BYTES: usize = 16;
 
 pub const LINK_BYTES: usize = 4;

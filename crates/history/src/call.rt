@@ -1,6 +1,5 @@
 // The calls of an engine as values.
 
-// A call.
 #[derive(Clone, Copy, PartialEq, Eq, Debug)]
 pub enum Call {
     // Begins an attempt.

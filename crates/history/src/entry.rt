@@ -4,11 +4,10 @@ ghost use Rattle.history.specs.Numbers.{direction_sign};
 
 use crate::phase::Phase;
 
+// Down for a lowering, up for a raising.
 #[derive(Clone, Copy, PartialEq, Eq, Debug)]
 pub enum Direction {
-    // A lowering.
     Down,
-    // A raising.
     Up,
 }
 

@@ -1,4 +1,4 @@
-// The words of lines.
+// The words that stand in lines for callbacks, phases and kinds of outcomes.
 ghost use Rattle.std.specs.Prelude.{◌≡◌, ◌≤◌, length};
 ghost use Rattle.lines.specs.Words.{callback, kind_word, phase_name, phase_word};
 
@@ -6,7 +6,7 @@ use history::entry::Direction;
 use history::outcome::Outcome;
 use history::phase::Phase;
 
-// Going down it goes by the phase, coming up by the level that is left.
+// The callback of an entry. That of a raising is the counterpart of the one that it undoes.
 pub(crate) fn callback(direction: Direction, phase: Phase) -> &'static [u8]
     ensures text { result.now ≡ callback direction phase }
     ensures most { length result.now ≤ 13 }

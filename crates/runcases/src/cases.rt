@@ -1,4 +1,4 @@
-// The kinds of cases.
+// A case is a run, a what-if or a line that is written: what each of them prints.
 use anyhow::anyhow;
 use casebytes::bytes::Bytes;
 use history::outcome::Outcome;

@@ -35,7 +35,7 @@ impl<B: Bank> Engine<B> {
         Ok(device)
     }
 
-    // An opening.
+    // Gives up the journal of the attempt before.
     pub(crate) fn begin(&mut self) -> Result<(), EngineFault>
         ensures answer { Says ⟦<B as Bank>⟧ Open self.old (answered (λ _. Opened) result) }
         ensures after { Becomes ⟦<B as Bank>⟧ Open self.old self.new }
@@ -46,7 +46,7 @@ impl<B: Bank> Engine<B> {
         Ok(())
     }
 
-    // A step.
+    // An alarm that is kept turns the attempt round before the next device is lowered.
     pub(crate) fn go(&mut self) -> Result<StepAnswer, EngineFault>
         ensures answer { Says ⟦<B as Bank>⟧ Step self.old (answered Stepped result) }
         ensures after { Becomes ⟦<B as Bank>⟧ Step self.old self.new }
@@ -66,7 +66,8 @@ impl<B: Bank> Engine<B> {
         }
     }
 
-    // An alarm.
+    // The first alarm on the way down is kept, and turns the attempt round at the next step. One that comes asleep turns it round
+    // at once.
     pub(crate) fn hear(&mut self, device: u8) -> Result<AlarmAnswer, EngineFault>
         ensures answer { Says ⟦<B as Bank>⟧ (Alarm device) self.old (answered Heard result) }
         ensures after { Becomes ⟦<B as Bank>⟧ (Alarm device) self.old self.new }
@@ -86,7 +87,7 @@ impl<B: Bank> Engine<B> {
         Ok(AlarmAnswer::Kept)
     }
 
-    // A close.
+    // The outcome is settled before what is still lowered is raised.
     #[tactic(auto, using(crate::proofs::Raisings::left_raised, crate::proofs::Raisings::left_recorded))]
     pub(crate) fn finish(&mut self) -> Result<Outcome, EngineFault>
         ensures answer { Says ⟦<B as Bank>⟧ Close self.old (answered Closed result) }
@@ -101,7 +102,7 @@ impl<B: Bank> Engine<B> {
         Ok(outcome)
     }
 
-    // A put.
+    // A number of no device is refused first, and then a put in an attempt.
     pub(crate) fn set(&mut self, device: u8, word: u32) -> Result<(), EngineFault>
         ensures answer { Says ⟦<B as Bank>⟧ (Put device word) self.old (answered (λ _. Written) result) }
         ensures after { Becomes ⟦<B as Bank>⟧ (Put device word) self.old self.new }
@@ -112,7 +113,7 @@ impl<B: Bank> Engine<B> {
         met(written, self.lowered)
     }
 
-    // A look.
+    // Allowed in an attempt too.
     pub(crate) fn seen(&self, device: u8) -> Result<(u8, u32, u8), EngineFault>
         ensures answer { Says ⟦<B as Bank>⟧ (Look device) self.now (answered (λ seen. Seen seen.0 seen.1 seen.2) result) }
     {

@@ -1,4 +1,4 @@
-// The lines of entries.
+// The line of an entry: the device's name, the callback and the code.
 ghost use Rattle.lines.specs.Writing.{WritesEntry, Finds, ReadBack, board_devices};
 
 use crate::fields::{Field, write_fields};
