@@ -3,11 +3,12 @@ use Rattle.std.proofs.Common.{◌≡◌, ℕ, ◌+◌, ◌*◌, ◌<◌, Bool, t
 use Rattle.std.specs.List.{between, prefix_len, range_with_len}
 use Rattle.std.specs.Str.{bytes_eq}
 use Rattle.std.proofs.lemmas.Slice.Eq.{bytes_eq-Decides}
-use Rattle.std.proofs.lemmas.Bool.Decides.{nat_tests, Decides-eqb, Decides-and, Decides-not, Decides-like, Decides-below_and, not_from_Decides}
+use Rattle.std.proofs.lemmas.Bool.Decides.{nat_tests, Decides-eqb, Decides-and, Decides-not, Decides-like, not_from_Decides}
 use Rattle.std.proofs.lemmas.Bool.{cases_lt}
 use Rattle.std.proofs.lemmas.List.FromFn.{length-range_with_len, get_or-range_with_len}
 use Rattle.std.proofs.lemmas.List.Sums.{prefix_len-le-length, prefix_len_passes, prefix_len_stops}
 use Rattle.order.specs.Rule.{all_below}
+use Rattle.order.proofs.Executes.{all_decides}
 use Rattle.board.specs.Records.{named}
 use Rattle.board.proofs.Names.{named_decides}
 use Rattle.boardfile.specs.Limits.{least_bytes, most_bytes, most_devices, most_links}
@@ -53,9 +54,6 @@ abbrev pub first_failing : ℕ → (ℕ → Bool) → ℕ
 first_failing n test = prefix_len test (range_with_len 0 n)
 
 module _ (test : ℕ → Bool) (Right : ℕ → Type 0) (each : (i : ℕ) → Decides (test i) (Right i)) (n : ℕ) where
-  all_decides : Decides (all_below n test) ((i : ℕ) → i < n → Right i)
-  all_decides = Decides-below_and test Right (λ m. all_below m test) each refl (λ _. refl) n
-
   failing_wrong : (((i : ℕ) → i < n → Right i) → ⊥) → FirstWrong Right n (first_failing n test)
   failing_wrong some =
       let k = first_failing n test in
@@ -69,7 +67,7 @@ module _ (test : ℕ → Bool) (Right : ℕ → Type 0) (each : (i : ℕ) → De
       record { inside = inside; wrong = not_from_Decides _ (each k) stops; before = before }
 
   pub judged : Decides (all_below n test) ((i : ℕ) → i < n → Right i) × ((((i : ℕ) → i < n → Right i) → ⊥) → FirstWrong Right n (first_failing n test))
-  judged = (all_decides, failing_wrong)
+  judged = (all_decides test Right each n, failing_wrong)
 
 module _ (bs : List ℕ) where
   abbrev parented : ℕ → Bool
