@@ -46,3 +46,21 @@ controller_past = Count ∷ Lower 1 ∷ Lower 1 ∷ Look 2 ∷ Lower 2 ∷ Raise
 abbrev pub controller_past_answers : List (Result Reply BankFault)
 controller_past_answers =
     Ok (Counted 3) ∷ code 0 ∷ code 0 ∷ sees 0 0x501 5 ∷ code 5 ∷ code 0 ∷ code 0 ∷ code 16 ∷ code 0 ∷ Ok Done ∷ sees 0 9 0 ∷ code 0 ∷ sees 1 0x80000000 16 ∷ []
+
+-- of a register device with every bit but the highest nothing hinders it, and each level keeps the bits that are its own
+abbrev pub not_busy : List Call
+not_busy = Lower 0 ∷ Look 0 ∷ Lower 0 ∷ Look 0 ∷ Lower 0 ∷ Look 0 ∷ []
+
+abbrev pub not_busy_answers : List (Result Reply BankFault)
+not_busy_answers = code 0 ∷ sees 1 0x7FFFFFFF 0 ∷ code 0 ∷ sees 2 0x7FFF0000 0 ∷ code 0 ∷ sees 3 0x7F000000 0 ∷ []
+
+-- each bit of its word's lowest byte makes a member of a bus busy at level 1, and none of the others does; a controller never is
+abbrev pub low_bytes : List Call
+low_bytes =
+    Lower 1 ∷ Look 1 ∷ Lower 2 ∷ Look 2 ∷ Lower 3 ∷ Look 3 ∷ Lower 4 ∷ Look 4 ∷ Lower 5 ∷ Look 5 ∷ Lower 6 ∷ Look 6 ∷ Lower 7 ∷ Look 7 ∷ Lower 8 ∷ Look 8
+    ∷ Lower 9 ∷ Look 9 ∷ Lower 9 ∷ Look 9 ∷ Lower 0 ∷ Look 0 ∷ []
+
+abbrev pub low_bytes_answers : List (Result Reply BankFault)
+low_bytes_answers =
+    code 0 ∷ sees 1 1 16 ∷ code 0 ∷ sees 1 2 16 ∷ code 0 ∷ sees 1 4 16 ∷ code 0 ∷ sees 1 8 16 ∷ code 0 ∷ sees 1 16 16 ∷ code 0 ∷ sees 1 32 16 ∷ code 0 ∷ sees 1 64 16
+    ∷ code 0 ∷ sees 1 128 16 ∷ code 0 ∷ sees 1 0xFFFFFF00 0 ∷ code 0 ∷ sees 2 0xFFFFFF00 0 ∷ code 0 ∷ sees 1 0xFF 0 ∷ []

@@ -3,7 +3,7 @@ use Rattle.std.specs.Prelude.{ℕ, List, [], ◌∷◌, ◌++◌, filter_map, So
 use Rattle.std.specs.List.{AllByRecursion, flat_map}
 use Rattle.boardfile.specs.declared.fault.BoardFault.TheVariants.{Size, Mark, Counts, Tables, DeviceRecord, LinkRecord, Circle}
 use Rattle.listing.specs.Printing.{printed}
-use Rattle.cases.specs.Calls.{down_and_up, down_and_up_answers, too_busy, too_busy_answers, cell_hinders, cell_hinders_answers, controller_past, controller_past_answers}
+use Rattle.cases.specs.Calls.{down_and_up, down_and_up_answers, too_busy, too_busy_answers, cell_hinders, cell_hinders_answers, controller_past, controller_past_answers, not_busy, not_busy_answers, low_bytes, low_bytes_answers}
 use Rattle.history.specs.declared.call.Call.TheVariants.{Close}
 use Rattle.history.specs.declared.standing.Stage.TheVariants as stage
 use Rattle.cases.specs.Engines.{three_parts, one_quiet, alarm_first, alarm_first_answers, by_lcd, one_sleeps, one_sleeps_answers, one_sleeps_journal, one_wakes_journal, slept_alone, busy, busy_answers, busy_journal, refusing, refusing_answers, refusing_journal, ends}
@@ -56,6 +56,7 @@ abbrev pub of_banks : List Case
 of_banks =
     registers (0x21A1B2C3 ∷ []) down_and_up down_and_up_answers
     ∷ registers (0x80000000 ∷ []) too_busy too_busy_answers
+    ∷ registers (0x7FFFFFFF ∷ []) not_busy not_busy_answers
     ∷ whole
     (record { registers = 0x21A1B2C3 ∷ []; buses = 0 ∷ 0x500 ∷ []; quiets = 7 ∷ []; cells = 0 ∷ 0 ∷ 0 ∷ 0 ∷ 0 ∷ 110 ∷ [] })
     cell_hinders
@@ -64,6 +65,10 @@ of_banks =
     (record { registers = 0x80000000 ∷ []; buses = 0 ∷ 0x501 ∷ []; quiets = []; cells = [] })
     controller_past
     controller_past_answers
+    ∷ whole
+    (record { registers = []; buses = 0xFF ∷ 1 ∷ 2 ∷ 4 ∷ 8 ∷ 16 ∷ 32 ∷ 64 ∷ 128 ∷ 0xFFFFFF00 ∷ []; quiets = []; cells = [] })
+    low_bytes
+    low_bytes_answers
     ∷ []
 
 -- calls of engines
