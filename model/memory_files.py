@@ -5,7 +5,7 @@ import os
 import calls
 import histories
 import runs
-from comparing_folders import shown
+from comparing_folders import named
 from making import Chance, Draft, any_links, device
 from sleeporder import bytes_of
 
@@ -50,7 +50,7 @@ def named_contents(in_folders):
             yield note, (data, sheet)[:len(in_folders.files)]
     yield "a refusal", in_folders.bad
     for contents in in_folders.strange_contents():
-        yield " and ".join(shown(content)[:20] for content in contents), contents
+        yield named(contents), contents
 
 
 CASES = {"bankcases": calls.CASES, "enginecases": histories.CASES, "runcases": runs.CASES}

@@ -7,4 +7,4 @@ use Rattle.cases.proofs.Showing.{Passes}
 
 pub of_banks_pass : AllByRecursion Passes of_banks
 unfolding digits
-of_banks_pass = ((lit≤ tt, refl), ((lit≤ tt, refl), ((lit≤ tt, refl), ((lit≤ tt, refl), ((lit≤ tt, refl), ((lit≤ tt, refl), tt))))))
+of_banks_pass = ((lit≤ tt, refl), ((lit≤ tt, refl), ((lit≤ tt, refl), ((lit≤ tt, refl), ((lit≤ tt, refl), ((lit≤ tt, refl), ((lit≤ tt, refl), tt)))))))

@@ -1,5 +1,5 @@
--- More calls of engines, what they are answered, and the journal after them: alarms asleep, refusals at every stage, closes going
--- down, and all of the schedule.
+-- More calls of engines, what they are answered, and the journal after them: alarms asleep, refusals awake, going down, asleep and
+-- landed, closes going down, and all of the schedule.
 use Rattle.std.specs.Prelude.{ℕ, List, [], ◌∷◌, ◌++◌, pos, Some, None, Ok, Err, Result}
 use Rattle.bank.specs.declared.fault.BankFault.TheVariants.{NoDevice}
 use Rattle.history.specs.declared.call.Call.{Call}

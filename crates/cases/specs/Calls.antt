@@ -64,3 +64,13 @@ abbrev pub low_bytes_answers : List (Result Reply BankFault)
 low_bytes_answers =
     code 0 ∷ sees 1 1 16 ∷ code 0 ∷ sees 1 2 16 ∷ code 0 ∷ sees 1 4 16 ∷ code 0 ∷ sees 1 8 16 ∷ code 0 ∷ sees 1 16 16 ∷ code 0 ∷ sees 1 32 16 ∷ code 0 ∷ sees 1 64 16
     ∷ code 0 ∷ sees 1 128 16 ∷ code 0 ∷ sees 1 0xFFFFFF00 0 ∷ code 0 ∷ sees 2 0xFFFFFF00 0 ∷ code 0 ∷ sees 1 0xFF 0 ∷ []
+
+-- the controller goes past a busy member at level 1, and comes back; then it goes down to level 4, and a quiet device does
+abbrev pub past_and_busy : List Call
+past_and_busy =
+    Lower 0 ∷ Look 0 ∷ Lower 1 ∷ Lower 0 ∷ Look 1 ∷ Raise 0 ∷ Look 1 ∷ Lower 0 ∷ Lower 0 ∷ Lower 0 ∷ Look 0 ∷ Lower 2 ∷ Lower 2 ∷ Lower 2 ∷ Look 2 ∷ Lower 2 ∷ Look 2 ∷ []
+
+abbrev pub past_and_busy_answers : List (Result Reply BankFault)
+past_and_busy_answers =
+    code 0 ∷ sees 1 9 0 ∷ code 0 ∷ code 0 ∷ sees 1 0x580 5 ∷ code 0 ∷ sees 1 0x580 16 ∷ code 0 ∷ code 0 ∷ code 0 ∷ sees 4 0 0 ∷ code 0 ∷ code 0 ∷ code 0 ∷ sees 3 7 0
+    ∷ code 0 ∷ sees 4 7 0 ∷ []

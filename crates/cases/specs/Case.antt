@@ -59,11 +59,11 @@ pub data Case : Type 0 where
   whole : Parts → List Call → List (Result Reply BankFault) → Case
   -- an engine of this order over such a bank answers these calls so; then it has this journal, and stands in this stage
   plays : Parts → List ℕ → List engine_call.Call → List (Result Answer EngineFault) → List Entry → Stage → Case
-  -- the board of this file, which has this order, is run with this sheet by so many calls, and this text is printed of it
+  -- the board of this file is run with this sheet by so many calls, and this text is printed of it; its order helps to compute that
   runs : List ℕ → List ℕ → List ℕ → ℕ → List ℕ → Case
   -- this file is refused so where it is run with this sheet, and this line is printed of it
   is_refused : List ℕ → List ℕ → ProgramFault → List ℕ → Case
-  -- a what-if of these files, of which the board has this order, of this device and level and with this byte, has this outcome
+  -- a what-if of these files, of this device and level and with this byte, has this outcome; the board's order helps to compute that
   asks : List ℕ → List ℕ → List ℕ → ℕ → ℕ → ℕ → Outcome → Case
   -- and one of this device and level and with this byte is refused so
   asks_wrongly : List ℕ → List ℕ → ℕ → ℕ → ℕ → ProgramFault → Case

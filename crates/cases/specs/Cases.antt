@@ -3,7 +3,7 @@ use Rattle.std.specs.Prelude.{ℕ, List, [], ◌∷◌, ◌++◌, filter_map, So
 use Rattle.std.specs.List.{AllByRecursion, flat_map}
 use Rattle.boardfile.specs.declared.fault.BoardFault.TheVariants.{Size, Mark, Counts, Tables, DeviceRecord, LinkRecord, Circle}
 use Rattle.listing.specs.Printing.{printed}
-use Rattle.cases.specs.Calls.{down_and_up, down_and_up_answers, too_busy, too_busy_answers, cell_hinders, cell_hinders_answers, controller_past, controller_past_answers, not_busy, not_busy_answers, low_bytes, low_bytes_answers}
+use Rattle.cases.specs.Calls.{down_and_up, down_and_up_answers, too_busy, too_busy_answers, cell_hinders, cell_hinders_answers, controller_past, controller_past_answers, not_busy, not_busy_answers, low_bytes, low_bytes_answers, past_and_busy, past_and_busy_answers}
 use Rattle.history.specs.declared.call.Call.TheVariants.{Close}
 use Rattle.history.specs.declared.standing.Stage.TheVariants as stage
 use Rattle.cases.specs.Engines.{three_parts, one_quiet, alarm_first, alarm_first_answers, by_lcd, one_sleeps, one_sleeps_answers, one_sleeps_journal, one_wakes_journal, slept_alone, busy, busy_answers, busy_journal, refusing, refusing_answers, refusing_journal, ends}
@@ -69,6 +69,7 @@ of_banks =
     (record { registers = []; buses = 0xFF ∷ 1 ∷ 2 ∷ 4 ∷ 8 ∷ 16 ∷ 32 ∷ 64 ∷ 128 ∷ 0xFFFFFF00 ∷ []; quiets = []; cells = [] })
     low_bytes
     low_bytes_answers
+    ∷ whole (record { registers = []; buses = 9 ∷ 0x580 ∷ []; quiets = 7 ∷ []; cells = [] }) past_and_busy past_and_busy_answers
     ∷ []
 
 -- calls of engines

@@ -79,7 +79,8 @@ HasAsked expected (Err (Program fault)) = ⊥
 HasAsked expected (Err NoRunMemory) = Unit {0}
 
 -- whatever answer the contract of `Board::read`, `register_answers`, `board_answers`, `run_session`, `run` or `what_if` allows is
--- the expected one; a refusal, an entry and an outcome have the line that is expected; and what has numbers has those that are
+-- the expected one; a refusal, an entry and an outcome have the line that is expected; a fault that comes up is the one that is
+-- expected; and values, numbers and signs are those that are expected
 abbrev pub Holds : Case → Type 0
 Holds (reads bytes expected printed) = (r : Result Board ReadFault) → Reads bytes r → HasRead expected r
 Holds (refuses bytes fault printed) = (r : Result Board ReadFault) → Reads bytes r → r ≡ Err (BrokenBy fault)

@@ -127,7 +127,7 @@ wrong_records =
     ∷ wrong (a ++ alone ++ b ++ alone ++ (0x00 ∷ 0x01 ∷ 0x00 ∷ 0x01 ∷ []) ++ slpb ++ for_linked) (LinkRecord 32) (codes "! 3 6 32\n")
     ∷ []
 
--- ---- right, and sheets; in each run the first device refuses to be prepared
+-- ---- right, and sheets; in each run the first device of the order refuses to be prepared
 
 -- two devices, of which device 1 refuses
 abbrev b_refuses : List ℕ

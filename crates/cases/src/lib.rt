@@ -1,5 +1,5 @@
-// The worked cases: board files, calls of banks and of engines, whole runs, what-ifs and lines of refusals, and what is to
-// come of each.
+// The worked cases: board files, calls of banks and of engines, whole runs, what-ifs, lines and numbers, and what is to come of
+// each.
 #![tactic(auto)]
 
 ghost use Rattle.std.specs.Prelude.{◌≡◌, ◌<◌, ◌≤◌, [], length, MatchOption, slice_index_or};

@@ -29,7 +29,7 @@ after_steps kind order s (suc k) = next kind order (after_steps kind order s k) 
 abbrev pub slept : {B : Type 0} (members : Ghosts B) → Engine B members → ℕ → State members.Model
 slept members before steps = after_steps members.kind (devices before.order) (next members.kind (devices before.order) (state members before) Open) steps
 
--- the engine was given an open, so many steps and a close, and no other call that changes it; the close answered this outcome
+-- the engine is as an open, so many steps and a close leave it, and this outcome is what the close answers
 pub record Napped {B : Type 0} (members : Ghosts B) (before after : Engine B members) (steps : ℕ) (outcome : Outcome) : Type 0 where
   pub leaves : state members after ≡ next members.kind (devices before.order) (slept members before steps) Close
   pub answers : Ok (Closed outcome) ≡ said members.kind (devices before.order) (slept members before steps) Close
