@@ -192,6 +192,6 @@ def judged(status, told, file):
                 return "not source", "", why
         place = "names" if places and not lacking else "proofs" if first and first[2].startswith("proofs/") else "src"
         return "refused", place, why
-    if status == 3 or status == -signal.SIGKILL or LIMITS.search(told):
+    if LIMITS.search(told):
         return "limit", "", why
     return "not source" if status == 1 and re.search(r"\berror\b", told) else "unknown", "", why
