@@ -62,7 +62,7 @@ module _ (mark : Bor (List ℕ)) (layer number place : ℕ) where
   unfolding joined
   refusal_joined = ap (λ bytes. mark.now ++ (32 ∷ (decimal layer ++ (32 ∷ (decimal number ++ (32 ∷ bytes)))))) (append-nil (decimal place))
 
-  pub refusal_room : length mark.now ≤ 1 → layer < 10 → number < 2 ^ 8 → place < 2 ^ 32 → length (joined (Text mark) (Number layer ∷ Number number ∷ Number place ∷ [])) ≤ 32
+  pub refusal_room : length mark.now ≤ 1 → layer < 2 ^ 8 → number < 2 ^ 8 → place < 2 ^ 32 → length (joined (Text mark) (Number layer ∷ Number number ∷ Number place ∷ [])) ≤ 32
   refusal_room one l n p =
       rw refusal_joined
-      (omega (arith, length-append {A = ℕ}, length-decimal-le 1 layer (omega arith) (omega arith) (omega arith), length-decimal-le 3 number (omega arith) (omega arith) (omega arith), length-decimal-le 10 place (omega arith) (omega arith) (omega arith)))
+      (omega (arith, length-append {A = ℕ}, length-decimal-le 3 layer (omega arith) (omega arith) (omega arith), length-decimal-le 3 number (omega arith) (omega arith) (omega arith), length-decimal-le 10 place (omega arith) (omega arith) (omega arith)))

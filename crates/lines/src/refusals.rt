@@ -33,7 +33,7 @@ pub fn refusal_line(refusal: Refusal, out: &mut [u8]) -> Result<usize, ProgramFa
     } = refusal;
     let fields = [
         Field::Number {
-            value: u32::from(layer as u8),
+            value: u32::from(layer.number()),
         },
         Field::Number {
             value: u32::from(number),

@@ -6,3 +6,6 @@ mod refusal;
 
 pub use layer::Layer;
 pub use refusal::Refusal;
+
+#[cfg(test)]
+mod tests;
