@@ -1,5 +1,5 @@
 -- What is printed of a board, piece by piece.
-use Rattle.std.proofs.Common.{◌≡◌, ℕ, ◌+◌, Bool, true, false, cond, List, [], ◌∷◌, ◌++◌, get_or, Decides, filter, refl, subst, append-nil, encode_utf8_all, arith}
+use Rattle.std.proofs.Common.{◌≡◌, ℕ, ◌+◌, Bool, true, false, cond, List, [], ◌∷◌, ◌++◌, Decides, filter, refl, subst, append-nil, arith}
 use Rattle.std.specs.List.{range_with_len, flat_map}
 use Rattle.std.proofs.lemmas.List.FromFn.{filter_of_map_range_with_len_more}
 use Rattle.std.proofs.lemmas.List.{map-id}
@@ -8,14 +8,6 @@ use Rattle.std.proofs.lemmas.Bool.Decides.{same_from_decides}
 use Rattle.order.specs.declared.superiors.Superiors.{Superiors}
 use Rattle.order.specs.Answers.{Superior, is_superior}
 use Rattle.order.proofs.Tables.{is_superior_tests}
-use Rattle.board.specs.declared.board.Board.{Board}
-use Rattle.boardfile.specs.Contents.{blank}
-use Rattle.boardfile.proofs.Printing.{printed_ascii}
-use Rattle.listing.specs.Lines.{name_of}
-
--- the name of a board's device is printed as it stands
-pub name_printed : (board : Board) (d : ℕ) → encode_utf8_all (name_of board d) ≡ name_of board d
-name_printed board d = printed_ascii (get_or board.devices.items d blank).name (board.ascii d)
 
 -- one number more, if it passes
 pub passed : (test : ℕ → Bool) (i : ℕ) → filter test (range_with_len 0 (i + 1)) ≡ filter test (range_with_len 0 i) ++ cond (test i) (i ∷ []) []

@@ -1,0 +1,5 @@
+use Rattle.std.proofs.Common.{◌≡◌, ◌++◌, take, string_bytes}
+use Rattle.listing.proofs.lines.push_ascii.Given as goal
+
+abbrev pub invariant-loop-b : goal.invariant-loop-b
+invariant-loop-b l = string_bytes l.text ≡ string_bytes l.initial.text ++ take l.b-index l.bytes
